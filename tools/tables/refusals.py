@@ -28,7 +28,7 @@ WITH_FAULT = {"bad-pattern", "bad-code"}
 # The help of `life explain`, and the most columns of its lines of names. Their first line has 101.
 HELP, HELP_COLUMNS = "crates/life_words/src/life_arguments.rt", 104
 # The definitions of the crates that give numbers and names to faults.
-LABELS = {"file": "crates/life_rle/specs/RleFault.antt", "code": "crates/life_code/specs/Fault.antt"}
+LABELS = {"file": "crates/life_rle/specs/RleFault.antt", "code": "crates/life_code/specs/CodeFault.antt"}
 # A fault that is answered `unavailable`, so nothing explains it.
 UNLISTED = "memory"
 

@@ -20,7 +20,7 @@ use Rattle.life_core.proofs.PatternCorners.{Has, has_cell_of}
 use Rattle.life_core.proofs.PatternMembers.{same_cell, has_cell, same_cell-true, contains-items}
 use Rattle.life_core.proofs.Placements.{minus, plus, minus_plus, moved, contains-placed}
 use Rattle.life_code.specs.Apart.{union_of}
-use Rattle.life_code.specs.Laws.{PartingNeverReturns}
+use Rattle.life_code.specs.CodeLaws.{PartingNeverReturns}
 use Rattle.life_code.specs.Period.{Returns}
 use Rattle.life_code.proofs.ApartUnions.{generation-union_of, in_from_contains, in_union_of}
 use Rattle.life_code.proofs.PeriodLemmas.{many, return_of_multiple}

@@ -21,14 +21,14 @@ use Rattle.life_core.proofs.PatternMembers.{same_cell-true, contains-list}
 use Rattle.life_core.proofs.PatternOrder.{from_list_of}
 use Rattle.life_core.proofs.Placements.{minus, plus, plus_minus, moved, contains-placed, len-placed}
 use Rattle.life_code.specs.declared.apart.Orbit.{Orbit}
-use Rattle.life_code.specs.declared.frames.Frame.{Frame}
+use Rattle.life_code.specs.declared.part_frames.Frame.{Frame}
 use Rattle.life_code.specs.declared.period.TheConstants.{PERIOD_LIMIT}
 use Rattle.life_code.specs.Apart.{near, AreApart}
 use Rattle.life_code.specs.ApartState.{IsOrbit, ComesNoNearer, KeepsLeft, KeepsAbove, KeepsUpperLeft, KeepsUpperRight}
 use Rattle.life_code.specs.ApartState.{KeepsAside, KeepApart}
-use Rattle.life_code.specs.FramesState.{IsInFrame, IsWider, HasMoved}
+use Rattle.life_code.specs.PartFramesState.{IsInFrame, IsWider, HasMoved}
 use Rattle.life_code.proofs.ApartNear.{near_within, near_symmetric}
-use Rattle.life_code.proofs.FramesLemmas.{wider_has, moved_has}
+use Rattle.life_code.proofs.PartFramesLemmas.{wider_has, moved_has}
 use Rattle.life_code.proofs.PeriodKinds.{some_len}
 use Rattle.life_code.proofs.PeriodLemmas.{many, phase_mod, generation-moved, return_of_placed}
 

@@ -17,9 +17,9 @@ use Rattle.life_core.specs.Rule.{RuleSets, IsRule}
 use Rattle.life_core.proofs.CellLemmas.{same_coordinates}
 use Rattle.life_core.proofs.PatternMembers.{same_cell, has_cell, cell_cmp_total, cells_by_members, contains-list}
 use Rattle.life_code.specs.declared.apart.Moving.{Moving}
-use Rattle.life_code.specs.declared.frames.Frame.{Frame}
+use Rattle.life_code.specs.declared.part_frames.Frame.{Frame}
 use Rattle.life_code.specs.Apart.{AreApart, AreAllApart, union_of}
-use Rattle.life_code.specs.FramesState.{HasMoved}
+use Rattle.life_code.specs.PartFramesState.{HasMoved}
 use Rattle.life_code.specs.ApartState.{IsOrbit, IsMoving, AreMoving, KeepApart, KeepsApartFrom, AreParted}
 use Rattle.life_code.specs.ApartState.{SomeMoveDifferently, parts_of}
 use Rattle.life_code.specs.Period.{Returns}

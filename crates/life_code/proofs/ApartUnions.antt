@@ -12,7 +12,7 @@ use Rattle.life_core.specs.Rule.{RuleSets}
 use Rattle.life_core.specs.Generations.{next, generation_of}
 use Rattle.life_core.proofs.PatternMembers.{cell_cmp_total}
 use Rattle.life_code.specs.Apart.{AreApart, AreAllApart, union_of}
-use Rattle.life_code.specs.Laws.{ApartGoOnAlone}
+use Rattle.life_code.specs.CodeLaws.{ApartGoOnAlone}
 use Rattle.life_code.proofs.ApartBlocks.{next-union, next-empty}
 
 apart_from_union : (P : Cells) (Ps : List Cells) → AllByRecursion (AreApart P) Ps → AreApart P (union_of Ps)

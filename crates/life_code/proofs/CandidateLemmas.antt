@@ -9,7 +9,7 @@ use Rattle.life_core.specs.Rule.{RuleSets}
 use Rattle.life_core.specs.Generations.{generation_of}
 use Rattle.life_code.specs.Wechsler.{wechsler}
 use Rattle.life_code.specs.Codes.{text_cmp, orientations, fits, shape, text_of, texts_of, candidates, least_text}
-use Rattle.life_code.specs.Laws.{IsCandidate, LeastIsLeast}
+use Rattle.life_code.specs.CodeLaws.{IsCandidate, LeastIsLeast}
 use Rattle.life_code.proofs.TextLists.{least_is, IsLeastText, In, one_flat, flat_one, one_some, each_orientation}
 use Rattle.life_code.proofs.TextLists.{range_one, one_range}
 

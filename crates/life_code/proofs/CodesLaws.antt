@@ -25,7 +25,7 @@ use Rattle.life_code.specs.declared.kinds.Kind.TheVariants.{Empty, Still, Oscill
 use Rattle.life_code.specs.Period.{Returns, HasPeriod, HasKind, returns, period_of, kind_of_period, kind_at, kind_of}
 use Rattle.life_code.specs.Codes.{text_cmp, candidates, least_text, with_prefix, code_by_kind, code_of, IsPeriodic}
 use Rattle.life_code.specs.Codes.{Same}
-use Rattle.life_code.specs.Laws.{SameIsEquivalence, CodeIsInvariant, CodeIsComplete, CodeStays}
+use Rattle.life_code.specs.CodeLaws.{SameIsEquivalence, CodeIsInvariant, CodeIsComplete, CodeStays}
 use Rattle.life_code.proofs.PeriodLemmas.{Taken, return_alike, return_of_placed, return_of_phase, taken_itself}
 use Rattle.life_code.proofs.PeriodLemmas.{taken_on, taken_back, taken_below, period_taken}
 use Rattle.life_code.proofs.PeriodKinds.{find_from, move_at, move_at-Returns, no_return, some_len, kind_is, kind_one}

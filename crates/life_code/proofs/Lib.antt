@@ -6,7 +6,7 @@ pub mod PeriodKinds
 pub mod PeriodSteps
 pub mod PeriodBirths
 pub mod PeriodPairs
-pub mod FramesLemmas
+pub mod PartFramesLemmas
 pub mod ApartNear
 pub mod ApartBlocks
 pub mod ApartUnions
@@ -23,10 +23,10 @@ pub mod CodesSteps
 pub mod WechslerSteps
 pub mod DecodeLemmas
 pub mod DecodeSteps
-pub mod MarksLemmas
+pub mod CellMarksLemmas
 pub mod CodesShapes
 pub mod CodesLaws
-pub mod OpenLemmas
+pub mod OpenCodeLemmas
 pub mod OpenLaws
 pub mod ObjectLemmas
 pub mod CodesNormal

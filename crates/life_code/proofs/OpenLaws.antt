@@ -20,12 +20,12 @@ use Rattle.life_core.proofs.PatternCorners.{normal-normal}
 use Rattle.life_core.proofs.PatternMembers.{contains-keep, contains-list, list_any-flat_map, passing_cell, same_cell}
 use Rattle.life_core.proofs.PatternMembers.{has_cell, contains-items, cells_by_members, same_answer}
 use Rattle.life_code.specs.declared.kinds.Kind.TheVariants.{Unresolved}
-use Rattle.life_code.specs.declared.fault.CodeFault.{CodeFault}
-use Rattle.life_code.specs.declared.fault.CodeFault.TheVariants.{BadText, NotCanonical, NotWithinLimit, Memory}
+use Rattle.life_code.specs.declared.code_fault.CodeFault.{CodeFault}
+use Rattle.life_code.specs.declared.code_fault.CodeFault.TheVariants.{BadText, NotCanonical, NotWithinLimit, Memory}
 use Rattle.life_code.specs.Period.{HasPeriod, returns, period_of, kind_at, kind_of}
 use Rattle.life_code.specs.Codes.{text_cmp, shape, candidates, least_text, with_prefix, code_by_kind, code_of}
 use Rattle.life_code.specs.Open.{IsPrefix, IsWechsler, Spells, Refuses}
-use Rattle.life_code.specs.Laws.{CodeSpells, SpellsOne}
+use Rattle.life_code.specs.CodeLaws.{CodeSpells, SpellsOne}
 use Rattle.life_code.proofs.PeriodLemmas.{back_to_start}
 use Rattle.life_code.proofs.PeriodKinds.{find_from, move_at, some_len}
 use Rattle.life_code.proofs.TextLists.{In, least_is}

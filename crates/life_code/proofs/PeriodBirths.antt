@@ -19,7 +19,7 @@ use Rattle.life_core.specs.Rule.{RuleSets}
 use Rattle.life_core.proofs.GenerationsLaws.{contains-next, move_back}
 use Rattle.life_core.proofs.PatternCorners.{Has, has_cell_of, least-IsLeast}
 use Rattle.life_core.proofs.Placements.{origin, minus, plus, place, placed, contains-placed, undo-place}
-use Rattle.life_code.specs.Laws.{BirthAtOneNeverReturns}
+use Rattle.life_code.specs.CodeLaws.{BirthAtOneNeverReturns}
 use Rattle.life_code.specs.Period.{Returns}
 use Rattle.life_code.proofs.PeriodLemmas.{return_of_placed}
 

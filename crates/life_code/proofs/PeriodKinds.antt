@@ -18,7 +18,7 @@ use Rattle.life_core.proofs.PatternCorners.{Has, has_cell_of, one_move, same_nor
 use Rattle.life_core.proofs.Placements.{moved}
 use Rattle.life_code.specs.declared.kinds.Kind.{Kind}
 use Rattle.life_code.specs.declared.kinds.Kind.TheVariants.{Empty, Still, Oscillator, Ship, Unresolved}
-use Rattle.life_code.specs.Laws.{OneKind}
+use Rattle.life_code.specs.CodeLaws.{OneKind}
 use Rattle.life_code.specs.Period.{Returns, HasPeriod, HasKind, returns, period_of, kind_of_period, kind_at, kind_of}
 use Rattle.life_code.specs.Period.{GivesKind}
 use Rattle.life_code.proofs.PeriodLemmas.{same_cells-eq, Returns-returns, returns-Returns}

@@ -18,7 +18,7 @@ use Rattle.life_core.proofs.PatternCorners.{normal-moved, same_normal}
 use Rattle.life_core.proofs.PatternMembers.{cell_cmp_total, cells_by_members, same_answer}
 use Rattle.life_core.proofs.Placements.{origin, minus, plus, after, moved, placed, placed_origin, placed-placed}
 use Rattle.life_core.proofs.Placements.{placed_back, moved-placed, moved-moved, generation-placed}
-use Rattle.life_code.specs.Laws.{PhasesComeAgain, PhasesDiffer}
+use Rattle.life_code.specs.CodeLaws.{PhasesComeAgain, PhasesDiffer}
 use Rattle.life_code.specs.Period.{Returns, HasPeriod, same_cells, returns}
 
 -- ---- whether two sets are one

@@ -21,7 +21,7 @@ use Rattle.life_core.proofs.GenerationsLaws.{contains-next, none_counted}
 use Rattle.life_core.proofs.PatternCorners.{Has}
 use Rattle.life_core.proofs.Placements.{origin, minus, plus, placed, contains-placed}
 use Rattle.life_code.specs.Growing.{HasPair, LiesInRows}
-use Rattle.life_code.specs.Laws.{PairsNeverReturn}
+use Rattle.life_code.specs.CodeLaws.{PairsNeverReturn}
 use Rattle.life_code.specs.Period.{Returns}
 use Rattle.life_code.specs.PeriodState.{NeverReturns}
 use Rattle.life_code.proofs.PeriodLemmas.{return_of_placed}

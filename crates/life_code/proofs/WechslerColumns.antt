@@ -8,7 +8,7 @@ use Rattle.std.proofs.lemmas.Bool.{cond-true, cond-false, ne_eqb, eq-eqb, cases_
 use Rattle.std.proofs.lemmas.List.{replicate-append-replicate}
 use Rattle.std.proofs.lemmas.List.FromFn.{length-map-range_with_len}
 use Rattle.life_code.specs.Wechsler.{width, character, zero_run, spelled, column_value, strip}
-use Rattle.life_code.specs.Laws.{columns_of, StripsAreTheirColumns}
+use Rattle.life_code.specs.CodeLaws.{columns_of, StripsAreTheirColumns}
 use Rattle.life_code.proofs.WechslerReading.{AllColumns, value-char, not_char, zero_run_long}
 use Rattle.life_code.proofs.WechslerTexts.{columns_small}
 

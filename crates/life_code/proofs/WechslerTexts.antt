@@ -18,7 +18,7 @@ use Rattle.life_core.proofs.PatternExtents.{within_past}
 use Rattle.life_code.specs.Wechsler.{width, height, spelled, column_value, strip, wechsler}
 use Rattle.life_code.specs.Codes.{fits}
 use Rattle.life_code.specs.DecodeState.{spells_cell, has_bit}
-use Rattle.life_code.specs.Laws.{TextsTellApart}
+use Rattle.life_code.specs.CodeLaws.{TextsTellApart}
 use Rattle.life_code.proofs.WechslerReading.{AllColumns, read_spelled, read_spelled_other, bit_zero, read_end}
 use Rattle.life_code.proofs.WechslerReading.{read_strip_end}
 

@@ -10,7 +10,7 @@ use Rattle.life_core.specs.Rule.{RuleSets}
 use Rattle.life_code.specs.declared.apart.Orbit.{Orbit}
 use Rattle.life_code.specs.declared.apart.Moving.{Moving}
 use Rattle.life_code.specs.Apart.{AreAllApart}
-use Rattle.life_code.specs.FramesState.{IsInFrame}
+use Rattle.life_code.specs.PartFramesState.{IsInFrame}
 use Rattle.life_code.specs.Period.{Returns}
 
 -- X comes back as the orbit says, and until then all its cells lie in the box

@@ -8,8 +8,8 @@ use Rattle.life_core.specs.Ascii.{digit_0, underscore}
 use Rattle.life_core.specs.Pattern.{Cells, normal}
 use Rattle.life_core.specs.Rule.{RuleSets}
 use Rattle.life_code.specs.declared.kinds.Kind.TheVariants.{Unresolved}
-use Rattle.life_code.specs.declared.fault.CodeFault.{CodeFault}
-use Rattle.life_code.specs.declared.fault.CodeFault.TheVariants.{BadText, NotCanonical, NotWithinLimit, Memory}
+use Rattle.life_code.specs.declared.code_fault.CodeFault.{CodeFault}
+use Rattle.life_code.specs.declared.code_fault.CodeFault.TheVariants.{BadText, NotCanonical, NotWithinLimit, Memory}
 use Rattle.life_code.specs.Period.{kind_of}
 use Rattle.life_code.specs.Wechsler.{wechsler}
 use Rattle.life_code.specs.Codes.{fits, code_of}

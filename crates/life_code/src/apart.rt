@@ -8,7 +8,7 @@ ghost use Rattle.life_code.specs.Apart.{union_of};
 ghost use Rattle.life_code.specs.ApartState.{IsOrbit, ComesNoNearer, KeepsLeft, KeepsAbove, KeepsUpperLeft, KeepsUpperRight, KeepsAside, KeepApart, MoveDifferently, IsMoving, AreMoving, KeepsApartFrom, SomeMoveDifferently, AreParted, parts_of};
 ghost use Rattle.life_code.specs.PeriodState.{NeverReturns};
 
-use crate::frames::{Frame, frames_of};
+use crate::part_frames::{Frame, frames_of};
 use crate::period::PERIOD_LIMIT;
 use life_core::{Cell, Fault, Pattern, Plane, Rule};
 use std::alloc::{AllocError, Allocator};

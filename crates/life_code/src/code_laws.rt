@@ -1,6 +1,6 @@
 //! What holds of all kinds and codes.
 ghost use Rattle.std.specs.Prelude.{◌≡◌};
-ghost use Rattle.life_code.specs.Laws.{ApartGoOnAlone, BirthAtOneNeverReturns, BoxesHaveOneSize, OneKind, PairsNeverReturn, PartingNeverReturns, PhasesComeAgain, PhasesDiffer, StripsAreTheirColumns, TextsTellApart, LeastIsLeast, SameIsEquivalence, CodeIsInvariant, CodeIsComplete, CodeSpells, SpellsOne, CodeStays};
+ghost use Rattle.life_code.specs.CodeLaws.{ApartGoOnAlone, BirthAtOneNeverReturns, BoxesHaveOneSize, OneKind, PairsNeverReturn, PartingNeverReturns, PhasesComeAgain, PhasesDiffer, StripsAreTheirColumns, TextsTellApart, LeastIsLeast, SameIsEquivalence, CodeIsInvariant, CodeIsComplete, CodeSpells, SpellsOne, CodeStays};
 
 use crate::period::PERIOD_LIMIT;
 

@@ -27,7 +27,7 @@ fn value_of(c: u8) -> u8
 
 /// The part of the box of 40 by 40 that has been read from a text.
 #[derive(Drop)]
-struct Reader {
+struct CodeReader {
     /// The values of the columns of each strip of five rows, from the top.
     columns: [u8; 320],
     /// The strip and the column at which the text continues.
@@ -38,15 +38,15 @@ struct Reader {
     ghost blank: { AreBlank columns strip column },
 }
 
-impl Reader {
-    ghost use Rattle.life_code.specs.ReaderState.{awaited};
+impl CodeReader {
+    ghost use Rattle.life_code.specs.CodeReaderState.{awaited};
 
-    fn new() -> Reader
+    fn new() -> CodeReader
         ensures start { (text : List ℕ) (x y : ℕ) → x < 40 → y < 40 → awaited result text x y ≡ spells_cell 0 false text x y }
         ensures column { result.column ≡ 0 }
         ensures strip { result.strip ≡ 0 }
     {
-        Reader {
+        CodeReader {
             columns: [0; 320],
             strip: 0,
             column: 0,
@@ -132,10 +132,10 @@ impl Reader {
 }
 
 /// Reads the whole text.
-fn read_text(text: &[u8]) -> Reader
+fn read_text(text: &[u8]) -> CodeReader
     ensures { (x y : ℕ) → x < 40 → y < 40 → spells_cell 0 false text.now x y ≡ is_live result.columns x y }
 {
-    let mut reader = Reader::new();
+    let mut reader = CodeReader::new();
     for c in text {
         reader.read(*c);
     }
@@ -155,7 +155,7 @@ fn cell_of_index(index: u16) -> Cell
 /// The live cells of the first places of the box.
 fn live_cells<A: Allocator>(
     alloc: A,
-    reader: &Reader,
+    reader: &CodeReader,
     places: u16,
 ) -> Result<Vec<Cell, A>, AllocError>
     requires { places ≤ CELLS }

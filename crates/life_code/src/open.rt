@@ -7,9 +7,9 @@ ghost use Rattle.life_core.specs.Pattern.{Cells};
 ghost use Rattle.life_code.specs.Codes.{code_of};
 ghost use Rattle.life_code.specs.Open.{IsPrefix, is_number, IsFront, IsWechsler, Spells, Refuses};
 
+use crate::code_fault::CodeFault;
 use crate::codes::{LARGEST_BOX, text_of};
 use crate::decode::decoded;
-use crate::fault::CodeFault;
 use crate::kinds::Kind;
 use crate::object::code_of_kind;
 use crate::period::{PERIOD_LIMIT, kind};

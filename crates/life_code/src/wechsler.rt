@@ -1,10 +1,10 @@
 //! The extended Wechsler text of a pattern.
 ghost use Rattle.std.specs.Prelude.{◌≡◌, ◌<◌, ◌≤◌, ◌++◌, OnOk, IfOk, map, length};
 ghost use Rattle.std.specs.List.{All, range_with_len};
-ghost use Rattle.life_code.specs.MarksState.{bit_of, shown_value};
+ghost use Rattle.life_code.specs.CellMarksState.{bit_of, shown_value};
 ghost use Rattle.life_code.specs.Wechsler.{character, zero_run, spelled, width, height, wechsler};
 
-use crate::marks::marked;
+use crate::cell_marks::marked;
 use life_core::Pattern;
 use std::alloc::{AllocError, Allocator};
 

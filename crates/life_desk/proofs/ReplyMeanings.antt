@@ -11,7 +11,7 @@ use Rattle.life_rle.specs.Writer as writer
 use Rattle.life_code.specs.declared.kinds.Kind.{Kind}
 use Rattle.life_code.specs.Codes.{code_of, Same}
 use Rattle.life_code.specs.Period.{kind_of}
-use Rattle.life_code.specs.Laws.{CodeIsComplete}
+use Rattle.life_code.specs.CodeLaws.{CodeIsComplete}
 use Rattle.life_census.specs.Cluster.{clusters_of}
 use Rattle.life_census.specs.Rows.{TallyCounts}
 use Rattle.life_census.specs.Steady.{IsSteady}

@@ -10,7 +10,7 @@ use Rattle.life_code.specs.Codes.{code_of}
 use Rattle.life_code.specs.DecodeState.{decoded}
 use Rattle.life_code.proofs.CodeMarks.{NoMark, front_unmarked}
 use Rattle.life_code.proofs.OpenLaws.{codes_spell}
-use Rattle.life_code.proofs.OpenLemmas.{decoded_is}
+use Rattle.life_code.proofs.OpenCodeLemmas.{decoded_is}
 use Rattle.life_desk.specs.declared.refusal.Refusal.{Refusal}
 use Rattle.life_desk.specs.declared.refusal.Refusal.TheVariants as no
 use Rattle.life_desk.specs.declared.request.Reply.{Reply}

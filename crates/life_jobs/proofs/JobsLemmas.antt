@@ -10,8 +10,8 @@ use Rattle.life_rle.specs.RleFault.{◌>>=◌}
 use Rattle.life_rle.specs.File.{file}
 use Rattle.life_rle.specs.Record.{Contents, plain}
 use Rattle.life_rle.specs.Writer.{text as printed}
-use Rattle.life_code.specs.declared.fault.CodeFault.{CodeFault}
-use Rattle.life_code.specs.declared.fault.CodeFault.TheVariants as code_faults
+use Rattle.life_code.specs.declared.code_fault.CodeFault.{CodeFault}
+use Rattle.life_code.specs.declared.code_fault.CodeFault.TheVariants as code_faults
 use Rattle.life_code.specs.Codes.{code_of}
 use Rattle.life_code.specs.Open.{Spells, Refuses}
 use Rattle.life_census.specs.Cluster.{clusters_of}

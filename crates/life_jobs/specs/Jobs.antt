@@ -17,8 +17,8 @@ use Rattle.life_rle.specs.Stream.{Appends, AppendsSome}
 use Rattle.life_code.specs.declared.period.TheConstants.{PERIOD_LIMIT}
 use Rattle.life_code.specs.declared.kinds.Kind.{Kind}
 use Rattle.life_code.specs.declared.kinds.Kind.TheVariants.{Empty, Still, Oscillator, Ship, Unresolved}
-use Rattle.life_code.specs.declared.fault.CodeFault.{CodeFault}
-use Rattle.life_code.specs.declared.fault.CodeFault.TheVariants as code_faults
+use Rattle.life_code.specs.declared.code_fault.CodeFault.{CodeFault}
+use Rattle.life_code.specs.declared.code_fault.CodeFault.TheVariants as code_faults
 use Rattle.life_code.specs.Period.{kind_of}
 use Rattle.life_code.specs.Codes.{code_of}
 use Rattle.life_code.specs.Open.{Spells, Refuses}

@@ -1,6 +1,6 @@
 -- What the steps of a job answer.
-use Rattle.life_code.specs.declared.fault.CodeFault.{CodeFault}
-use Rattle.life_code.specs.declared.fault.CodeFault.TheVariants as code_faults
+use Rattle.life_code.specs.declared.code_fault.CodeFault.{CodeFault}
+use Rattle.life_code.specs.declared.code_fault.CodeFault.TheVariants as code_faults
 use Rattle.life_jobs.specs.declared.stop.Stop.{Stop}
 use Rattle.life_jobs.specs.declared.stop.Stop.TheVariants.{BadCode, Unavailable}
 

@@ -3,8 +3,8 @@
 use Rattle.std.specs.Prelude.{ℕ, List, [], ◌++◌, codes}
 use Rattle.life_rle.specs.declared.rle_fault.RleFault.TheVariants as rle_faults
 use Rattle.life_rle.specs.RleFault as rle
-use Rattle.life_code.specs.declared.fault.CodeFault.TheVariants as code_faults
-use Rattle.life_code.specs.Fault as code
+use Rattle.life_code.specs.declared.code_fault.CodeFault.TheVariants as code_faults
+use Rattle.life_code.specs.CodeFault as code
 use Rattle.life_jobs.specs.declared.stop.Stop.{Stop}
 use Rattle.life_jobs.specs.declared.stop.Stop.TheVariants.{OutOfLimit, BadPattern, BadRule, BadCode, Unreadable}
 use Rattle.life_jobs.specs.declared.stop.Stop.TheVariants.{Unavailable, Unwritable}

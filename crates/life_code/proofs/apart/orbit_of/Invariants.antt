@@ -2,7 +2,7 @@ use Rattle.std.specs.Prelude.{◌≡◌, ℕ, ◌-◌, ◌<◌, true}
 use Rattle.std.specs.FinSet as set
 use Rattle.life_core.specs.declared.cell.Cell.{Cell}
 use Rattle.life_core.specs.Generations.{generation_of}
-use Rattle.life_code.specs.FramesState.{IsInFrame}
+use Rattle.life_code.specs.PartFramesState.{IsInFrame}
 use Rattle.life_code.proofs.apart.orbit_of.Given as goal
 
 abbrev pub invariant-loop-period : goal.invariant-loop-period

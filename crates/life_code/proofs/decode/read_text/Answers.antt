@@ -1,6 +1,6 @@
 use Rattle.std.proofs.Common.{sym, ap, ◌∙◌}
 use Rattle.std.proofs.lemmas.List.{drop_all}
-use Rattle.life_code.specs.ReaderState.{awaited}
+use Rattle.life_code.specs.CodeReaderState.{awaited}
 use Rattle.life_code.proofs.DecodeSteps.{nothing_left}
 use Rattle.life_code.proofs.decode.read_text.Goals as goal
 

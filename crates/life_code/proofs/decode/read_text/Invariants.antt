@@ -1,6 +1,6 @@
 use Rattle.std.proofs.Common.{◌≡◌, ◌<◌, ◌≤◌, ◌*◌, ℕ, drop, false}
 use Rattle.life_code.specs.DecodeState.{spells_cell}
-use Rattle.life_code.specs.ReaderState.{awaited}
+use Rattle.life_code.specs.CodeReaderState.{awaited}
 use Rattle.life_code.proofs.decode.read_text.Given as goal
 
 abbrev pub invariant-loop-c : goal.invariant-loop-c

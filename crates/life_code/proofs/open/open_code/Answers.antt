@@ -1,9 +1,9 @@
 use Rattle.std.proofs.Common.{sym, ap, ◌∙◌, arith}
 use Rattle.std.specs.Prelude.{nat_eq}
 use lib.Pointwise.{pointwise}
-use Rattle.life_code.specs.declared.fault.CodeFault.TheVariants.{BadText, NotCanonical, NotWithinLimit}
+use Rattle.life_code.specs.declared.code_fault.CodeFault.TheVariants.{BadText, NotCanonical, NotWithinLimit}
 use Rattle.life_code.proofs.ObjectLemmas.{texts_decide}
-use Rattle.life_code.proofs.OpenLemmas.{spelled_room}
+use Rattle.life_code.proofs.OpenCodeLemmas.{spelled_room}
 use Rattle.life_code.proofs.OpenLaws.{refused_is_no_code, refused_without_code, refused_with_other}
 use Rattle.life_code.proofs.open.open_code.Goals as goal
 

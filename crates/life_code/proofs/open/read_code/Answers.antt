@@ -1,6 +1,6 @@
 use Rattle.std.proofs.Common.{take, drop, ◌+◌, sym, ◌∙◌}
 use Rattle.life_code.proofs.CodeMarks.{first_mark_none, first_mark_some, cut_to_end}
-use Rattle.life_code.proofs.OpenLemmas.{unmarked_spells, refused_front, read_behind}
+use Rattle.life_code.proofs.OpenCodeLemmas.{unmarked_spells, refused_front, read_behind}
 use Rattle.life_code.proofs.open.read_code.Goals as goal
 
 pub returns-in_default : goal.returns-in_default

@@ -4,8 +4,8 @@ use lib.Pointwise.{pointwise}
 use Rattle.life_code.specs.CodesState.{list_of}
 use Rattle.life_code.proofs.ObjectLemmas.{texts_decide}
 use Rattle.life_code.proofs.WechslerLengths.{long_spells}
-use Rattle.life_code.proofs.OpenLemmas.{decoded_room, refused_empty, refused_normal, refused_large, refused_text}
-use Rattle.life_code.proofs.OpenLemmas.{is_wechsler, same_as_normal}
+use Rattle.life_code.proofs.OpenCodeLemmas.{decoded_room, refused_empty, refused_normal, refused_large, refused_text}
+use Rattle.life_code.proofs.OpenCodeLemmas.{is_wechsler, same_as_normal}
 use Rattle.life_code.proofs.open.read_wechsler.Goals as goal
 
 pub returns-then-text-gt-LONGEST_TEXT : goal.returns-then-text-gt-LONGEST_TEXT

@@ -1,7 +1,7 @@
 use Rattle.std.proofs.Common.{◌≡◌, map, ◌∙◌, arith}
 use Rattle.std.specs.List.{range_with_len}
 use Rattle.life_code.specs.Wechsler.{column_value}
-use Rattle.life_code.proofs.MarksLemmas.{shown_columns}
+use Rattle.life_code.proofs.CellMarksLemmas.{shown_columns}
 use Rattle.life_code.proofs.WechslerSteps.{write_first, write_next, columns_fit, columns_few, all_strips}
 use Rattle.life_code.proofs.wechsler.wechsler.Goals as goal
 use Rattle.life_code.proofs.wechsler.wechsler.Goals.{then-strip-gt0+in_ok-push, else-strip-gt0}

@@ -1,5 +1,5 @@
 use Rattle.std.proofs.Common.{arith}
-use Rattle.life_code.proofs.OpenLemmas.{spelled_room}
+use Rattle.life_code.proofs.OpenCodeLemmas.{spelled_room}
 use Rattle.life_jobs.proofs.pattern_jobs.object.Goals as goal
 
 pub into_plain-requires : goal.into_plain-requires

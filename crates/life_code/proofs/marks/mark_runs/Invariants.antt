@@ -1,7 +1,0 @@
-use Rattle.std.proofs.Common.{take}
-use Rattle.life_core.specs.Runs.{runs_cells}
-use Rattle.life_code.specs.MarksState.{Marks}
-use Rattle.life_code.proofs.marks.mark_runs.Given as goal
-
-abbrev pub invariant-loop-run : goal.invariant-loop-run
-invariant-loop-run l = Marks l.flags (runs_cells (take l.run-index l.runs))

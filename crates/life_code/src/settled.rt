@@ -22,6 +22,9 @@ const SETTLED_LIMIT: u32 = 4;
 /// holds something that is still active.
 const LARGEST_PART: i64 = 24;
 
+/// The same at a soup. Six or more objects of its ash may lie within three cells of each other, in boxes of up to this size.
+const LARGEST_PART_OF_SOUP: i64 = 40;
+
 /// A field with more cells is not examined, and not looked at again.
 const MOST_CELLS: usize = 1024;
 
@@ -92,6 +95,14 @@ fn may_be_settled(start: Start, before: usize, now: usize) -> bool {
     match start {
         Start::Soup => before == now,
         _ => now <= MOST_CELLS,
+    }
+}
+
+/// The greatest size of a part's box in a field that began so.
+fn largest_part(start: Start) -> i64 {
+    match start {
+        Start::Soup => LARGEST_PART_OF_SOUP,
+        _ => LARGEST_PART,
     }
 }
 
@@ -181,11 +192,12 @@ fn later_parts<A: Allocator + Copy>(
     Ok(Some(Pattern::from_list(cells)?))
 }
 
-/// Generation `n` of a field, if it is seen to have settled.
+/// Generation `n` of a field whose parts have boxes of at most this size, if we can show that it has settled.
 fn generation_if_settled<A: Allocator + Copy, P: Plane<A>>(
     alloc: A,
     rule: &Rule,
     field: &Pattern<A>,
+    largest: i64,
     n: u32,
     known: &mut Vec<Moving<A>, A>,
 ) -> Result<Option<Pattern<A>>, Fault>
@@ -197,13 +209,13 @@ fn generation_if_settled<A: Allocator + Copy, P: Plane<A>>(
 {
     // For the proof alone: under no rule is a cell born without neighbours.
     let _quiet = rule.is_live_next(false, 0);
-    match moving_parts::<A, P>(alloc, rule, field, SETTLED_LIMIT, LARGEST_PART, known)? {
+    match moving_parts::<A, P>(alloc, rule, field, SETTLED_LIMIT, largest, known)? {
         Some(parts) => later_parts(alloc, rule, &parts, n),
         None => Ok(None),
     }
 }
 
-/// Generation `n` of a pattern that starts as scattered parts, if it is seen that they never meet.
+/// Generation `n` of a pattern that starts as scattered parts, if we can show that they never meet.
 fn first_look<A: Allocator + Copy, P: Plane<A>>(
     alloc: A,
     rule: &Rule,
@@ -219,7 +231,9 @@ fn first_look<A: Allocator + Copy, P: Plane<A>>(
     ensures later { IfOk result (λ o. IfSome o (λ X. X ≡ generation_of rule.now pattern.now n)) }
 {
     match start {
-        Start::Scattered => generation_if_settled::<A, P>(alloc, rule, pattern, n, known),
+        Start::Scattered => {
+            generation_if_settled::<A, P>(alloc, rule, pattern, LARGEST_PART, n, known)
+        }
         _ => Ok(None),
     }
 }
@@ -246,7 +260,7 @@ fn repeated<A: Allocator + Copy, P: Plane<A>>(
     later_return(alloc, rule, pattern, i, Cell { row, column }, n)
 }
 
-/// The field of a plane, `n` generations later, if it is seen to have settled. `last` is how many cells the last look found.
+/// The field of a plane, `n` generations later, if we can show that it has settled. `last` is how many cells the last look found.
 fn look<A: Allocator + Copy, P: Plane<A>>(
     alloc: A,
     rule: &Rule,
@@ -271,10 +285,10 @@ fn look<A: Allocator + Copy, P: Plane<A>>(
     if !may_be_settled(start, before, *last) {
         return Ok(None);
     }
-    generation_if_settled::<A, P>(alloc, rule, &field, n, known)
+    generation_if_settled::<A, P>(alloc, rule, &field, largest_part(start), n, known)
 }
 
-/// Generation `n` of the pattern, made on a plane of the kind `P` until it is seen to have settled.
+/// Generation `n` of the pattern, made on a plane of the kind `P` until we can show that it has settled.
 fn settled_generation_by<A: Allocator + Copy, P: Plane<A>>(
     alloc: A,
     rule: &Rule,

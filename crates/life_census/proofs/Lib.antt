@@ -10,7 +10,7 @@ pub mod CountingRows
 pub mod CountingTotals
 pub mod TableLines
 pub mod CodeTextLaws
-pub mod NamesLaws
+pub mod CodeCacheLaws
 pub mod SteadyPhases
 pub mod SurveyLaws
 pub mod SteadyVisits

@@ -4,7 +4,7 @@ pub mod CodeText
 pub mod Rows
 pub mod Counting
 pub mod CountingState
-pub mod NamesState
+pub mod CodeCacheState
 pub mod Table
 pub mod TableState
 pub mod Steady

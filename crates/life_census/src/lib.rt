@@ -3,10 +3,10 @@
 
 mod census_laws;
 mod cluster;
+mod code_cache;
 mod code_text;
 mod flood;
 mod meeting;
-mod names;
 mod rows;
 mod survey;
 mod table;
@@ -14,9 +14,9 @@ mod tallying;
 
 pub use census_laws::{laws_of_clusters, laws_of_steady_fields, laws_of_tallies};
 pub use cluster::clusters;
+pub use code_cache::CodeCache;
 pub use code_text::{CodeText, is_code_text};
 pub use meeting::{steady, tally_and_steady};
-pub use names::Names;
 pub use rows::{Row, Rows, Tally};
 pub use table::csv;
 pub use tallying::tally;

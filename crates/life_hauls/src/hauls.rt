@@ -11,7 +11,7 @@ use crate::soup_counting::count_soup;
 use crate::soups::soup;
 use crate::symmetry::Symmetry;
 use crate::watch::Watch;
-use life_census::{CodeText, Names};
+use life_census::{CodeCache, CodeText};
 use life_code::{PERIOD_LIMIT, settled_generation};
 use life_core::{Fault, GENERATION_LIMIT, Rule};
 use std::alloc::Allocator;
@@ -36,23 +36,23 @@ pub struct HaulQuestion<'a> {
 }
 
 /// After this many soups, the remembered shapes are dropped. A haul meets ever new shapes without a code, so storing all of them would take
-/// memory proportional to the number of soups. Naming the usual shapes again takes a few hundredths of the time for this many soups.
+/// memory proportional to the number of soups. CodeQuestion the usual shapes again takes a few hundredths of the time for this many soups.
 const SOUPS_REMEMBERED: u64 = 4_096;
 
 /// Drops the remembered shapes, if it is time after this many soups.
 fn drop_shapes<A: Allocator + Copy>(
     alloc: A,
     question: &HaulQuestion<'_>,
-    names: &mut Names<A>,
+    cache: &mut CodeCache<A>,
     soups: u64,
 )
     requires from_one { 1 ≤ question.now.limit }
     requires few { question.now.limit ≤ PERIOD_LIMIT }
-    requires naming { names.old ≡ record { rule = question.now.rule; limit = question.now.limit } }
-    ensures { names.new ≡ names.old }
+    requires naming { cache.old ≡ record { rule = question.now.rule; limit = question.now.limit } }
+    ensures { cache.new ≡ cache.old }
 {
     if soups % SOUPS_REMEMBERED == 0 {
-        *names = Names::new(alloc, question.rule, question.limit);
+        *cache = CodeCache::new(alloc, question.rule, question.limit);
     }
 }
 
@@ -60,16 +60,16 @@ fn drop_shapes<A: Allocator + Copy>(
 fn codes_of_soup<A: Allocator + Copy>(
     alloc: A,
     question: &HaulQuestion<'_>,
-    names: &mut Names<A>,
+    cache: &mut CodeCache<A>,
     number: u64,
 ) -> Result<Vec<Option<CodeText<A>>, A>, Fault>
     requires { question.now.n ≤ GENERATION_LIMIT }
-    ensures same { names.new ≡ names.old }
-    ensures codes { IfOk result (λ v. v.items ≡ map (λ P. code_of names.old.rule P names.old.limit) (clusters_of (generation_of question.now.rule (soup_of question.now.symmetry question.now.root.now number) question.now.n))) }
+    ensures same { cache.new ≡ cache.old }
+    ensures codes { IfOk result (λ v. v.items ≡ map (λ P. code_of cache.old.rule P cache.old.limit) (clusters_of (generation_of question.now.rule (soup_of question.now.symmetry question.now.root.now number) question.now.n))) }
 {
     let soup = soup(alloc, question.symmetry, question.root, number)?;
     let field = settled_generation(alloc, &question.rule, &soup, question.n)?;
-    names.codes(alloc, &field)
+    cache.codes(alloc, &field)
 }
 
 /// The haul that a question asks for: how many clusters of its soups' generation have each code under the rule and the limit on the period, and
@@ -85,12 +85,12 @@ pub fn haul<A: Allocator + Copy, W: Watch>(
     requires numbers { question.now.first + question.now.count < 2 ^ 64 }
     ensures { IfOk result (λ h. h ≡ haul_of question.now.symmetry question.now.root.now question.now.rule question.now.n question.now.limit question.now.first question.now.count) }
 {
-    let mut names = Names::new(alloc, question.rule, question.limit);
+    let mut cache = CodeCache::new(alloc, question.rule, question.limit);
     let mut haul = Haul::none(alloc);
     for i in 0..question.count {
         let number = question.first + i;
-        drop_shapes(alloc, question, &mut names, i);
-        let codes = codes_of_soup(alloc, question, &mut names, number)?;
+        drop_shapes(alloc, question, &mut cache, i);
+        let codes = codes_of_soup(alloc, question, &mut cache, number)?;
         count_soup(alloc, &mut haul, &codes, number)?;
         watch.report(i + 1, question.count);
     }

@@ -3,7 +3,7 @@ use Rattle.std.specs.List.{range_with_len}
 use Rattle.life_core.specs.Generations.{generation_of}
 use Rattle.life_code.specs.Codes.{code_of}
 use Rattle.life_census.specs.Cluster.{clusters_of}
-use Rattle.life_census.specs.NamesState.{Naming}
+use Rattle.life_census.specs.CodeCacheState.{CodeQuestion}
 use Rattle.life_hauls.specs.declared.hauls.HaulQuestion.{HaulQuestion}
 use Rattle.life_hauls.specs.Hauls.{HaulCounts, counts_over, soup_codes}
 use Rattle.life_hauls.specs.HaulsState.{with_soup}
@@ -20,7 +20,7 @@ codes_of q = soup_codes q.symmetry q.root.now q.rule q.n q.limit
 pub loop-i-init : goal.loop-i-init
 loop-i-init g c = record {
   counted = c.none-haul.ensures ∙ sym (no-soups (codes_of c.args.question.now));
-  names = c.new-names.ensures;
+  cache = c.new-cache.ensures;
 }
 
 pub count_soup-requires : goal.count_soup-requires
@@ -34,10 +34,10 @@ loop-i-preserved g c =
     let all : ℕ → List (Option (List ℕ)) = codes_of q in
     let ns = range_with_len q.first c.loop-i.i in
     let i = q.first + c.loop-i.i in
-    let names = c.drop_shapes.ensures ∙ c.loop-i.invariant.names in
+    let cache = c.drop_shapes.ensures ∙ c.loop-i.invariant.cache in
     let codes = c.deref.ensures.value ∙ c.in_ok-codes.ensures.codes
-    ∙ ap (λ (v : Naming). map (λ P. code_of v.rule P v.limit)
-    (clusters_of (generation_of q.rule (soup_of q.symmetry q.root.now i) q.n))) names in
+    ∙ ap (λ (v : CodeQuestion). map (λ P. code_of v.rule P v.limit)
+    (clusters_of (generation_of q.rule (soup_of q.symmetry q.root.now i) q.n))) cache in
     record {
       counted =
           c.in_ok-count_soup.ensures
@@ -45,7 +45,7 @@ loop-i-preserved g c =
           ∙ ap (λ (os : List (Option (List ℕ))). with_soup i (counts_over all ns) os) codes
           ∙ counts-push all ns i
           ∙ ap (counts_over all) (sym (range-push q.first c.loop-i.i));
-      names = c.codes_of_soup.ensures.same ∙ names;
+      cache = c.codes_of_soup.ensures.same ∙ cache;
     }
 
 pub returns : goal.returns

@@ -9,5 +9,5 @@ invariant-loop-i g l =
     record {
       counted :
           l.haul ≡ counts_over (soup_codes q.symmetry q.root.now q.rule q.n q.limit) (range_with_len q.first l.i);
-      names : l.names ≡ record { rule = q.rule; limit = q.limit };
+      cache : l.cache ≡ record { rule = q.rule; limit = q.limit };
     }

@@ -1,7 +1,7 @@
 use Rattle.std.proofs.Common.{◌≡◌, false, map, take}
 use Rattle.life_code.specs.Codes.{code_of}
 use Rattle.life_census.specs.SurveyState.{IsSurvey}
-use Rattle.life_census.proofs.names.named.Given as goal
+use Rattle.life_census.proofs.code_cache.named.Given as goal
 
 abbrev pub invariant-loop-cluster : goal.invariant-loop-cluster
 invariant-loop-cluster g l = record {

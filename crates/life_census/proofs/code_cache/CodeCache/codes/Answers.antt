@@ -3,10 +3,10 @@ use Rattle.std.proofs.lemmas.List.Elements.{All-same}
 use Rattle.life_core.specs.Pattern.{Cells, IsWithin}
 use Rattle.life_code.specs.Codes.{code_of}
 use Rattle.life_census.specs.Cluster.{clusters_of}
-use Rattle.life_census.specs.NamesState.{Naming}
+use Rattle.life_census.specs.CodeCacheState.{CodeQuestion}
 use Rattle.life_census.proofs.ClusterLaws.{parts_within}
 use Rattle.life_census.proofs.ClusterListing.{clusters_listed}
-use Rattle.life_census.proofs.names.Names.codes.Goals as goal
+use Rattle.life_census.proofs.code_cache.CodeCache.codes.Goals as goal
 
 pub named-requires-clause-room : goal.named-requires-clause-room
 named-requires-clause-room g c =
@@ -19,7 +19,8 @@ returns-clause-codes g c =
     let same : c.deref.result.now ≡ clusters_of X = c.deref.ensures.value
     ∙ clusters_listed _ _ c.in_ok-clusters.ensures in
     let terms : record { rule = c.self.inside.rule; limit = c.self.inside.limit } ≡ c.args.self.now = c.self.view_is in
-    subst (λ (v : Naming). IfOk c.named.result (λ v'. v'.items ≡ map (λ P. code_of v.rule P v.limit) (clusters_of X)))
+    subst (λ (v : CodeQuestion). IfOk c.named.result
+    (λ v'. v'.items ≡ map (λ P. code_of v.rule P v.limit) (clusters_of X)))
     terms
     (subst (λ (Qs : List Cells). IfOk c.named.result
     (λ v'. v'.items ≡ map (λ P. code_of c.self.inside.rule P c.self.inside.limit) Qs)) same

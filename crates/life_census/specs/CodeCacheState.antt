@@ -4,12 +4,12 @@ use Rattle.std.specs.Coded.{Coded, code_by, coded×, coded_ℕ}
 use Rattle.life_core.specs.Rule.{RuleSets, coded_rule}
 
 -- the rule and the limit under which codes are given
-pub record Naming : Type 0 where
+pub record CodeQuestion : Type 0 where
   pub rule : RuleSets
   pub limit : ℕ
 
 -- they are stored as the pair
-abbrev pub coded_naming : Coded Naming
-coded_naming =
+abbrev pub coded_question : Coded CodeQuestion
+coded_question =
     code_by (RuleSets × ℕ) (coded× coded_rule coded_ℕ) (λ a. (a.rule, a.limit))
     (λ p. record { rule = p.0; limit = p.1 }) (λ _. refl)

@@ -2,8 +2,8 @@ use Rattle.std.proofs.Common.{ℕ, ◌∷◌, [], ◌++◌, List, Option, map, t
 use Rattle.std.proofs.lemmas.List.{take_all}
 use Rattle.life_core.specs.Pattern.{Cells}
 use Rattle.life_code.specs.Codes.{code_of}
-use Rattle.life_census.proofs.NamesLaws.{one_more_mapped}
-use Rattle.life_census.proofs.names.named.Goals as goal
+use Rattle.life_census.proofs.CodeCacheLaws.{one_more_mapped}
+use Rattle.life_census.proofs.code_cache.named.Goals as goal
 
 pub loop-cluster-preserved : goal.loop-cluster-preserved
 loop-cluster-preserved g c =

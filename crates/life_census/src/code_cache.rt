@@ -14,37 +14,37 @@ use life_core::{Fault, Pattern, Rule};
 use std::alloc::{AllocError, Allocator};
 use std::marker::Model;
 
-/// Names the clusters of one pattern after another, under a rule and a limit on the period. It remembers the codes of all shapes that it
+/// CodeCache the clusters of one pattern after another, under a rule and a limit on the period. It remembers the codes of all shapes that it
 /// has met, so each is computed once.
 #[derive(Drop)]
-pub struct Names<A: Allocator> {
+pub struct CodeCache<A: Allocator> {
     rule: Rule,
     limit: u32,
     shapes: Vec<Shape<A>, A>,
 }
 
-impl<A: Allocator> Model for Names<A> {
+impl<A: Allocator> Model for CodeCache<A> {
     ghost use Rattle.std.specs.Prelude.{false};
-    ghost use Rattle.life_census.specs.NamesState.{Naming, coded_naming};
+    ghost use Rattle.life_census.specs.CodeCacheState.{CodeQuestion, coded_question};
     ghost use Rattle.life_census.specs.SurveyState.{IsSurvey};
 
-    ghost Value = { Naming };
+    ghost Value = { CodeQuestion };
 
-    ghost coded = { coded_naming };
+    ghost coded = { coded_question };
 
     ghost view = { λ a. record { rule = a.rule; limit = a.limit } };
 
     ghost invariant = { λ a. IsSurvey a.rule a.limit false a.shapes.items };
 }
 
-impl<A: Allocator + Copy> Names<A> {
+impl<A: Allocator + Copy> CodeCache<A> {
     /// Under this rule and this limit, with no shapes yet.
-    pub fn new(alloc: A, rule: Rule, limit: u32) -> Names<A>
+    pub fn new(alloc: A, rule: Rule, limit: u32) -> CodeCache<A>
         requires from_one { 1 ≤ limit }
         requires few { limit ≤ PERIOD_LIMIT }
         ensures { result ≡ record { rule = rule; limit = limit } }
     {
-        Names {
+        CodeCache {
             rule,
             limit,
             shapes: Vec::new(alloc),

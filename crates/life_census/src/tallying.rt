@@ -49,11 +49,11 @@ pub fn tally_of_one<A: Allocator + Copy>(
     ensures { IfOk result (IsTally (λ P. code_of search.now.rule P search.now.limit) (cluster.now ∷ [])) }
 {
     let code = search.code_of(cluster, kind)?;
-    Ok(counted_once(search.alloc, &code)?)
+    Ok(tally_of_code(search.alloc, &code)?)
 }
 
 /// The tally of one cluster with this code, or without a code.
-fn counted_once<A: Allocator + Copy>(
+fn tally_of_code<A: Allocator + Copy>(
     alloc: A,
     code: &Option<CodeText<A>>,
 ) -> Result<Tally<A>, AllocError>

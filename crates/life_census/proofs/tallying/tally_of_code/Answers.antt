@@ -3,8 +3,8 @@ use Rattle.life_census.specs.Rows.{row_seen}
 use Rattle.life_census.specs.CountingState.{one_more}
 use Rattle.life_census.proofs.CountingLaws.{counts_none}
 use Rattle.life_census.proofs.CountingSteps.{with_code, without_code, resolved, unresolved}
-use Rattle.life_census.proofs.tallying.counted_once.Goals as goal
-use Rattle.life_census.proofs.tallying.counted_once.Goals.{in-Some+in_ok-count_code-in-Some, in-None}
+use Rattle.life_census.proofs.tallying.tally_of_code.Goals as goal
+use Rattle.life_census.proofs.tallying.tally_of_code.Goals.{in-Some+in_ok-count_code-in-Some, in-None}
 
 pub returns : goal.returns
 returns g c f P same =

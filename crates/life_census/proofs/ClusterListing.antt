@@ -17,7 +17,7 @@ use Rattle.life_code.proofs.ApartUnions.{IsIn, in_from_contains}
 use Rattle.life_code.specs.Apart.{near}
 use Rattle.life_census.specs.Cluster.{AreJoined, IsCluster, IsBefore, AreInOrder, AreClustersOf}
 use Rattle.life_census.specs.Cluster.{touches, joined_with, clusters_among, clusters_of}
-use Rattle.life_census.specs.Laws.{OneClusterEach}
+use Rattle.life_census.specs.CensusLaws.{OneClusterEach}
 use Rattle.life_core.proofs.PatternOrder.{in_order-sorted, from_list-in_order}
 use Rattle.life_census.proofs.ClusterLaws.{joined_self, joined_then, joined_trans, joined_back, near_stays, one_cluster}
 use Rattle.life_census.proofs.ClusterLaws.{one_whole, one_list_of_clusters, contains_from_in, all_in, all_from_in}

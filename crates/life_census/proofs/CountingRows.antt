@@ -12,7 +12,7 @@ use Rattle.std.proofs.lemmas.Cmp.{tied_itself}
 use Rattle.std.specs.FinMap as table
 use Rattle.life_code.proofs.ApartUnions.{IsIn, in_from_contains}
 use Rattle.life_census.specs.Counting.{row_cmp, how_often, occurrences_of}
-use Rattle.life_census.specs.Laws.{RowsAreCounts, RowsAscend}
+use Rattle.life_census.specs.CensusLaws.{RowsAreCounts, RowsAscend}
 use Rattle.life_census.proofs.ClusterLaws.{contains_from_in}
 use Rattle.life_census.proofs.CountingLaws.{Texts, same_text, same_text_is, row_cmp_total, row_cmp_exact}
 use Rattle.life_census.proofs.CountingLaws.{how_often_none, both_T, less_T, none_below, table_of, get_counted, one_if}

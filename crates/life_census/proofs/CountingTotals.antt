@@ -11,7 +11,7 @@ use Rattle.std.proofs.lemmas.List.Sums.{sum_by-cons}
 use Rattle.life_core.specs.Pattern.{Cells}
 use Rattle.life_census.specs.Counting.{row_cmp, occurrences_of}
 use Rattle.life_census.specs.CountingState.{one_more}
-use Rattle.life_census.specs.Laws.{TalliesAddUp}
+use Rattle.life_census.specs.CensusLaws.{TalliesAddUp}
 use Rattle.life_census.proofs.CountingLaws.{counts_push, counts_none}
 
 abbrev all_of : List (List ℕ × ℕ) → ℕ

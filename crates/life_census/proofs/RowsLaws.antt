@@ -8,7 +8,7 @@ use Rattle.std.specs.List.{All, insert}
 use Rattle.std.proofs.lemmas.Bool.{cases_lt}
 use Rattle.std.proofs.lemmas.List.{get_or_default}
 use Rattle.std.proofs.lemmas.List.Elements.{All-same, All-cons, All-append, All-take, All-drop, All-set, All-weaker}
-use Rattle.life_census.specs.declared.rows.Row.{Row}
+use Rattle.life_census.specs.declared.tally_rows.Row.{Row}
 use Rattle.life_census.specs.Rows.{row_seen}
 use Rattle.life_census.specs.Counting.{row_cmp}
 use Rattle.life_census.specs.CountingState.{one_more, AreBelow}

@@ -19,7 +19,7 @@ use Rattle.life_census.specs.Cluster.{IsCluster, IsBefore, AreInOrder, touches, 
 use Rattle.life_census.specs.Steady.{IsSteady, stays, are_apart, first_generations, keep_apart, all_keep_apart}
 use Rattle.life_census.specs.Steady.{is_steady}
 use Rattle.life_census.specs.SurveyState.{StaysFor}
-use Rattle.life_census.specs.Laws.{SteadyIsDecided}
+use Rattle.life_census.specs.CensusLaws.{SteadyIsDecided}
 use Rattle.life_census.proofs.ClusterLaws.{contains_from_in, before_itself}
 use Rattle.life_census.proofs.ClusterListing.{touching, touches_by, clusters_are}
 use Rattle.life_census.proofs.SteadyPhases.{stays_for, others_go, phase}

@@ -16,7 +16,7 @@ use Rattle.life_code.proofs.ApartUnions.{IsIn, in_from_contains, generation-unio
 use Rattle.life_code.specs.Apart.{AreApart, AreAllApart, union_of}
 use Rattle.life_census.specs.Cluster.{IsCluster, IsBefore, AreInOrder, AreClustersOf, clusters_of}
 use Rattle.life_census.specs.Steady.{IsSteady}
-use Rattle.life_census.specs.Laws.{SteadyFieldsEvolveByClusters, ClustersShareNoCell}
+use Rattle.life_census.specs.CensusLaws.{SteadyFieldsEvolveByClusters, ClustersShareNoCell}
 use Rattle.life_census.proofs.ClusterLaws.{before_itself}
 use Rattle.life_census.proofs.ClusterListing.{clusters_are}
 

@@ -10,11 +10,11 @@ use Rattle.std.proofs.lemmas.List.Concat.{flat_map-append, flat_map-cons}
 use Rattle.std.specs.List.{flat_map}
 use Rattle.csv.specs.Writing.{needs_byte, needs_quotes, default_writer, row_text, quoted, fields_text, is_blank}
 use Rattle.std.proofs.lemmas.List.Folds.{flat_map-map}
-use Rattle.life_census.specs.declared.rows.Row.{Row}
+use Rattle.life_census.specs.declared.tally_rows.Row.{Row}
 use Rattle.life_census.specs.Rows.{row_seen}
 use Rattle.csv.specs.declared.writer.Writer.{Writer}
-use Rattle.life_census.specs.Table.{line}
-use Rattle.life_census.specs.TableState.{Holds}
+use Rattle.life_census.specs.CensusTable.{line}
+use Rattle.life_census.specs.CensusTableState.{Holds}
 use Rattle.life_census.specs.CodeText.{is_code_byte}
 use Rattle.life_census.proofs.CodeTextLaws.{decimal_plain}
 

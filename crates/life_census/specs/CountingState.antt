@@ -2,7 +2,7 @@
 use Rattle.std.specs.Prelude.{◌≡◌, ℕ, ◌+◌, ◌<◌, ◌≤◌, List, [], ◌∷◌, length, slice_index_or}
 use Rattle.std.specs.declared.cmp.Ordering.TheVariants.{Less, Equal, Greater}
 use Rattle.std.specs.Ordering.{match_ordering}
-use Rattle.life_census.specs.declared.rows.Row.{Row}
+use Rattle.life_census.specs.declared.tally_rows.Row.{Row}
 use Rattle.life_census.specs.Counting.{row_cmp}
 
 -- the rows after counting a text once more

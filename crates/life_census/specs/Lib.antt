@@ -5,9 +5,9 @@ pub mod Rows
 pub mod Counting
 pub mod CountingState
 pub mod CodeCacheState
-pub mod Table
-pub mod TableState
+pub mod CensusTable
+pub mod CensusTableState
 pub mod Steady
 pub mod SteadyState
 pub mod SurveyState
-pub mod Laws
+pub mod CensusLaws

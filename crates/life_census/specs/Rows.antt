@@ -1,7 +1,7 @@
 -- The content of a tally.
 use Rattle.std.specs.Prelude.{ℕ, List, refl}
 use Rattle.std.specs.Coded.{Coded, code_by, coded×, coded_ℕ, coded_list}
-use Rattle.life_census.specs.declared.rows.Row.{Row}
+use Rattle.life_census.specs.declared.tally_rows.Row.{Row}
 
 -- a row as its code and its count
 abbrev pub row_seen : {A : Type 0} → Row A → List ℕ × ℕ

@@ -1,5 +1,5 @@
 //! What makes the definitions of clusters, tallies and steady fields believable.
-ghost use Rattle.life_census.specs.Laws.{ClustersAreListed, OneListOfClusters, OneClusterEach, RowsAreCounts, RowsAscend, TalliesAddUp, SteadyFieldsEvolveByClusters, ClustersShareNoCell, SteadyIsDecided};
+ghost use Rattle.life_census.specs.CensusLaws.{ClustersAreListed, OneListOfClusters, OneClusterEach, RowsAreCounts, RowsAscend, TalliesAddUp, SteadyFieldsEvolveByClusters, ClustersShareNoCell, SteadyIsDecided};
 
 /// What the definition of clusters means: `clusters_of` lists them, no other list does, and each cell of a set
 /// is in exactly one of its clusters. A law: calling it does nothing.

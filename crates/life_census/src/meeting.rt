@@ -17,8 +17,8 @@ ghost use Rattle.life_census.specs.SteadyState.{visit_cmp, visit_of, IsVisitInPl
 ghost use Rattle.life_census.specs.SurveyState.{IsSurvey};
 
 use crate::cluster::clusters;
-use crate::rows::Tally;
 use crate::survey::{Search, Shape, stays_in_place};
+use crate::tally_rows::Tally;
 use crate::tallying::{tally_of, tally_of_one};
 use life_code::{PERIOD_LIMIT, kind};
 use life_core::{Cell, Fault, Pattern, Rule};

@@ -12,8 +12,8 @@ ghost use Rattle.life_census.specs.SurveyState.{IsSurvey};
 
 use crate::cluster::clusters;
 use crate::code_text::CodeText;
-use crate::rows::{Row, Rows, Tally};
 use crate::survey::{Search, Shape};
+use crate::tally_rows::{Row, Rows, Tally};
 use life_code::{Kind, PERIOD_LIMIT, kind};
 use life_core::{Fault, Pattern, Rule};
 use std::alloc::{AllocError, Allocator};

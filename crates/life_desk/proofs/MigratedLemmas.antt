@@ -5,7 +5,7 @@ use Rattle.std.specs.List.{AllByRecursion}
 use Rattle.life_core.specs.Generations.{generation_of}
 use Rattle.life_census.specs.Rows.{TallyCounts}
 use Rattle.life_census.specs.Steady.{is_steady}
-use Rattle.life_census.specs.Laws.{SteadyIsDecided}
+use Rattle.life_census.specs.CensusLaws.{SteadyIsDecided}
 use Rattle.life_store.specs.declared.kept.Deposit.{Deposit}
 use Rattle.life_store.specs.declared.kept.Census.{Census}
 use Rattle.life_store.specs.Migration.{IsFlagged, unflagged}

@@ -15,7 +15,7 @@ use Rattle.life_code.specs.CodeLaws.{CodeIsComplete}
 use Rattle.life_census.specs.Cluster.{clusters_of}
 use Rattle.life_census.specs.Rows.{TallyCounts}
 use Rattle.life_census.specs.Steady.{IsSteady}
-use Rattle.life_census.specs.Laws.{RowsAreCounts, TalliesAddUp, SteadyIsDecided}
+use Rattle.life_census.specs.CensusLaws.{RowsAreCounts, TalliesAddUp, SteadyIsDecided}
 use Rattle.sqlite_trees.specs.declared.store.Store.{Ghosts}
 use Rattle.life_store.specs.declared.kept.Deposit.{Deposit}
 use Rattle.life_store.specs.declared.kept.Census.{Census}

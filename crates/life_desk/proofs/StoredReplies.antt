@@ -4,7 +4,7 @@ use Rattle.std.proofs.Common.{Ok, Err, IfOk, refl, ◌∙◌, ap, subst}
 use Rattle.std.specs.Result.{MatchResult}
 use Rattle.std.specs.Str.{bytes_eq}
 use Rattle.life_rle.specs.Writer.{text}
-use Rattle.life_census.specs.Table.{csv_text}
+use Rattle.life_census.specs.CensusTable.{csv_text}
 use Rattle.life_store.specs.declared.kept.Deposit.{Deposit}
 use Rattle.life_store.specs.declared.kept.Census.{Census}
 use Rattle.life_store.specs.Kept.{file_of_deposit}

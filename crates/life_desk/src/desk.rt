@@ -19,7 +19,7 @@ ghost use Rattle.life_desk.specs.Run.{Answered, IsIdle, IsCrashSafe};
 ghost use Rattle.life_desk.specs.Archive.{tally_for, tally_at, tally_of_cells, steady_for};
 ghost use Rattle.life_rle.specs.Writer.{text};
 ghost use Rattle.life_census.specs.Steady.{is_steady};
-ghost use Rattle.life_census.specs.Table.{csv_text};
+ghost use Rattle.life_census.specs.CensusTable.{csv_text};
 
 use crate::bytes::Bytes;
 use crate::counting::counted;

@@ -17,7 +17,7 @@ use Rattle.life_code.specs.Open.{Spells, Refuses}
 use Rattle.life_census.specs.Cluster.{clusters_of}
 use Rattle.life_census.specs.Rows.{TallyCounts}
 use Rattle.life_census.specs.Counting.{IsTally, tally_of}
-use Rattle.life_census.specs.Table.{csv_text}
+use Rattle.life_census.specs.CensusTable.{csv_text}
 use Rattle.life_jobs.specs.declared.stop.Stop.{Stop}
 use Rattle.life_jobs.specs.declared.stop.Stop.TheVariants.{OutOfLimit, BadPattern, BadRule, BadCode, Unreadable}
 use Rattle.life_jobs.specs.declared.stop.Stop.TheVariants.{Unavailable, Unwritable}

@@ -24,7 +24,7 @@ use Rattle.life_code.specs.Codes.{code_of}
 use Rattle.life_code.specs.Open.{Spells, Refuses}
 use Rattle.life_census.specs.Cluster.{clusters_of}
 use Rattle.life_census.specs.Counting.{tally_of}
-use Rattle.life_census.specs.Table.{csv_text}
+use Rattle.life_census.specs.CensusTable.{csv_text}
 use Rattle.life_jobs.specs.declared.stop.Stop.{Stop}
 use Rattle.life_jobs.specs.declared.stop.Stop.TheVariants.{OutOfLimit, BadPattern, BadRule, BadCode, Unreadable}
 use Rattle.life_jobs.specs.declared.stop.Stop.TheVariants.{Unavailable, Unwritable}

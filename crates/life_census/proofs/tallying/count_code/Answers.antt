@@ -1,6 +1,6 @@
 use Rattle.std.proofs.Common.{◌+◌, ◌<◌, ◌^◌, length, refl, sym, subst, ◌∙◌, arith}
 use Rattle.std.proofs.lemmas.Result.{IfOk-from_err}
-use Rattle.life_census.specs.declared.rows.Row.{Row}
+use Rattle.life_census.specs.declared.tally_rows.Row.{Row}
 use Rattle.life_census.proofs.RowsLaws.{new_row_at, old_row_at, new_row_bounded, old_row_bounded}
 use Rattle.life_census.proofs.tallying.count_code.Goals as goal
 

@@ -6,7 +6,7 @@ use Rattle.std.proofs.lemmas.List.{take_all}
 use Rattle.std.proofs.lemmas.List.Elements.{All-weaker}
 use Rattle.life_core.specs.Pattern.{Cells, IsWithin}
 use Rattle.life_code.specs.Codes.{code_of}
-use Rattle.life_census.specs.declared.rows.Row.{Row}
+use Rattle.life_census.specs.declared.tally_rows.Row.{Row}
 use Rattle.life_census.specs.Rows.{row_seen}
 use Rattle.life_census.specs.Counting.{occurrences_of}
 use Rattle.life_census.specs.CountingState.{one_more}

@@ -1,7 +1,7 @@
 use Rattle.std.proofs.Common.{◌∙◌}
 use Rattle.std.proofs.lemmas.Result.{IfOk-weaker}
 use Rattle.life_census.proofs.TableLines.{line_written}
-use Rattle.life_census.proofs.table.add_line.Goals as goal
+use Rattle.life_census.proofs.census_table.add_line.Goals as goal
 
 pub returns : goal.returns
 returns g c =

@@ -2,9 +2,9 @@ use Rattle.std.proofs.Common.{codes, ◌++◌, ◌∷◌, [], List, ℕ, ap, ◌
 use Rattle.std.proofs.lemmas.List.{take_all}
 use Rattle.std.proofs.lemmas.Result.{IfOk-weaker}
 use Rattle.std.specs.List.{flat_map}
-use Rattle.life_census.specs.Table.{line}
+use Rattle.life_census.specs.CensusTable.{line}
 use Rattle.life_census.proofs.TableLines.{same_text, more, names_are, rows_seen}
-use Rattle.life_census.proofs.table.text_of.Goals as goal
+use Rattle.life_census.proofs.census_table.text_of.Goals as goal
 
 abbrev head : List ℕ
 head = codes "code,count" ++ 10 ∷ []

@@ -1,8 +1,8 @@
 use Rattle.std.proofs.Common.{take, codes, ◌++◌, ◌∷◌, []}
 use Rattle.std.specs.List.{flat_map}
-use Rattle.life_census.specs.Table.{line}
-use Rattle.life_census.specs.TableState.{Holds}
-use Rattle.life_census.proofs.table.text_of.Given as goal
+use Rattle.life_census.specs.CensusTable.{line}
+use Rattle.life_census.specs.CensusTableState.{Holds}
+use Rattle.life_census.proofs.census_table.text_of.Given as goal
 
 abbrev pub invariant-loop-row : goal.invariant-loop-row
 invariant-loop-row g l =

@@ -4,10 +4,10 @@ ghost use Rattle.std.specs.List.{list_all};
 ghost use Rattle.csv.specs.Writing.{row_text, default_writer};
 ghost use Rattle.life_census.specs.CodeText.{is_code_byte};
 ghost use Rattle.life_census.specs.Rows.{row_seen};
-ghost use Rattle.life_census.specs.Table.{line, lines, csv_text};
-ghost use Rattle.life_census.specs.TableState.{Holds};
+ghost use Rattle.life_census.specs.CensusTable.{line, lines, csv_text};
+ghost use Rattle.life_census.specs.CensusTableState.{Holds};
 
-use crate::rows::{Row, Tally};
+use crate::tally_rows::{Row, Tally};
 use csv::{Writer, WriterBuilder};
 use itoa::Buffer;
 use life_core::Fault;

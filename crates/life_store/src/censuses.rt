@@ -16,7 +16,7 @@ ghost use Rattle.life_store.specs.Stored.{tagged};
 ghost use Rattle.life_store.specs.Statements.{Withstands, QueriesFor, AddsNext, StaysInside};
 ghost use Rattle.life_store.specs.Tables.{tables_of, HasOrder, Holds, WasHealthy, HoldsTheSame, ForAllHeld};
 
-use crate::executing::{query, text, whole};
+use crate::executing::{query, sql_integer, sql_text};
 use crate::fault::Unavailable;
 use crate::flags;
 use crate::kept::Census;
@@ -41,7 +41,7 @@ pub(crate) fn show<S: Alter>(conn: &mut Connection<S>, id: i64) -> Result<Vec<Ro
     query(
         conn,
         "SELECT id, member, token, deposit, gens, lim, clusters, unresolved FROM censuses WHERE id = ?1 ORDER BY id",
-        &[whole(id)],
+        &[sql_integer(id)],
     )
 }
 
@@ -56,7 +56,7 @@ pub(crate) fn find<'a, S: Alter>(
     query(
         conn,
         "SELECT id, member, token, deposit, gens, lim, clusters, unresolved FROM censuses WHERE member = ?1 AND token = ?2 ORDER BY id",
-        &[text(member), text(token)],
+        &[sql_text(member), sql_text(token)],
     )
 }
 
@@ -67,7 +67,7 @@ pub(crate) fn rows_of<S: Alter>(conn: &mut Connection<S>, id: i64) -> Result<Vec
     query(
         conn,
         "SELECT code, n FROM census_rows WHERE census = ?1 ORDER BY code",
-        &[whole(id)],
+        &[sql_integer(id)],
     )
 }
 
@@ -94,14 +94,14 @@ fn insert_census<S: Alter>(
     tx.execute(
         "INSERT INTO censuses (id, member, token, deposit, gens, lim, clusters, unresolved) VALUES (?1, ?2, ?3, ?4, ?5, ?6, ?7, ?8)",
         &[
-            whole(id),
-            text(census.member.as_bytes()),
-            text(census.token.as_bytes()),
-            whole(deposit),
-            whole(i64::from(census.generation)),
-            whole(i64::from(census.limit)),
-            whole(total),
-            whole(unresolved),
+            sql_integer(id),
+            sql_text(census.member.as_bytes()),
+            sql_text(census.token.as_bytes()),
+            sql_integer(deposit),
+            sql_integer(i64::from(census.generation)),
+            sql_integer(i64::from(census.limit)),
+            sql_integer(total),
+            sql_integer(unresolved),
         ],
     )?;
     Ok(())
@@ -122,7 +122,11 @@ fn insert_row<S: Alter>(
     };
     tx.execute(
         "INSERT INTO census_rows (census, code, n) VALUES (?1, ?2, ?3)",
-        &[whole(id), text(row.code.as_bytes()), whole(count)],
+        &[
+            sql_integer(id),
+            sql_text(row.code.as_bytes()),
+            sql_integer(count),
+        ],
     )?;
     Ok(())
 }
@@ -197,6 +201,6 @@ pub(crate) fn total<'a, S: Alter>(
     query(
         conn,
         "SELECT sum(n) FROM census_rows JOIN censuses ON census_rows.census = censuses.id JOIN deposits ON censuses.deposit = deposits.id WHERE rule = ?1 AND code = ?2",
-        &[text(rule), text(code)],
+        &[sql_text(rule), sql_text(code)],
     )
 }

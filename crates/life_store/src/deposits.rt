@@ -10,7 +10,7 @@ ghost use Rattle.life_store.specs.DepositsState.{AreValuesOf, AddsUnder};
 ghost use Rattle.life_store.specs.Statements.{QueriesFor};
 ghost use Rattle.life_store.specs.Tables.{tables_of, ForAllHeld};
 
-use crate::executing::{blob, query, text, whole, write};
+use crate::executing::{query, sql_blob, sql_integer, sql_text, write};
 use crate::fault::Unavailable;
 use crate::kept::Deposit;
 use sqlite::{Alter, Connection, Error, Row};
@@ -34,7 +34,7 @@ pub(crate) fn show<S: Alter>(conn: &mut Connection<S>, id: i64) -> Result<Vec<Ro
     query(
         conn,
         "SELECT id, member, token, rule, population, rle FROM deposits WHERE id = ?1 ORDER BY id",
-        &[whole(id)],
+        &[sql_integer(id)],
     )
 }
 
@@ -49,7 +49,7 @@ pub(crate) fn find<'a, S: Alter>(
     query(
         conn,
         "SELECT id, member, token, rule, population, rle FROM deposits WHERE member = ?1 AND token = ?2 ORDER BY id",
-        &[text(member), text(token)],
+        &[sql_text(member), sql_text(token)],
     )
 }
 
@@ -60,7 +60,7 @@ pub(crate) fn list_after<S: Alter>(conn: &mut Connection<S>, id: i64) -> Result<
     query(
         conn,
         "SELECT id, member, population, rule FROM deposits WHERE id > ?1 ORDER BY id LIMIT 100",
-        &[whole(id)],
+        &[sql_integer(id)],
     )
 }
 
@@ -103,12 +103,12 @@ fn insert<S: Alter>(
         conn,
         "INSERT INTO deposits (id, member, token, rule, population, rle) VALUES (?1, ?2, ?3, ?4, ?5, ?6)",
         &[
-            whole(id),
-            text(deposit.member.as_bytes()),
-            text(deposit.token.as_bytes()),
-            text(values.rule.as_bytes()),
-            whole(values.population),
-            blob(values.file.as_slice()),
+            sql_integer(id),
+            sql_text(deposit.member.as_bytes()),
+            sql_text(deposit.token.as_bytes()),
+            sql_text(values.rule.as_bytes()),
+            sql_integer(values.population),
+            sql_blob(values.file.as_slice()),
         ],
     )
 }

@@ -16,21 +16,21 @@ use sqlite::types::ValueRef;
 use sqlite::{Alter, Connection, Error, ErrorCode, Row, Transaction};
 
 /// An INTEGER of SQL.
-pub(crate) fn whole<'a>(n: i64) -> ValueRef<'a>
+pub(crate) fn sql_integer<'a>(n: i64) -> ValueRef<'a>
     ensures { owned result ≡ Int n }
 {
     ValueRef::Int(n)
 }
 
 /// A TEXT of SQL.
-pub(crate) fn text<'a>(bytes: &'a [u8]) -> ValueRef<'a>
+pub(crate) fn sql_text<'a>(bytes: &'a [u8]) -> ValueRef<'a>
     ensures { owned result ≡ Text bytes.now }
 {
     ValueRef::Text(bytes)
 }
 
 /// A BLOB of SQL.
-pub(crate) fn blob<'a>(bytes: &'a [u8]) -> ValueRef<'a>
+pub(crate) fn sql_blob<'a>(bytes: &'a [u8]) -> ValueRef<'a>
     ensures { owned result ≡ Blob bytes.now }
 {
     ValueRef::Blob(bytes)
@@ -107,5 +107,5 @@ pub(crate) fn query_about<S: Alter>(
     let Ok(id) = i64::try_from(id) else {
         return Err(Unavailable);
     };
-    query_inside(tx, sql, &[whole(id)])
+    query_inside(tx, sql, &[sql_integer(id)])
 }

@@ -11,7 +11,7 @@ ghost use Rattle.life_store.specs.ReadingState.{ShowsFlag};
 ghost use Rattle.life_store.specs.Statements.{Withstands, QueriesFor, StaysInside};
 ghost use Rattle.life_store.specs.Tables.{tables_of, ForAllHeld};
 
-use crate::executing::{flag, query, whole};
+use crate::executing::{flag, query, sql_integer};
 use crate::fault::Unavailable;
 use sqlite::{Alter, Connection, Error, Row, Transaction};
 
@@ -22,7 +22,7 @@ pub(crate) fn show<S: Alter>(conn: &mut Connection<S>, id: i64) -> Result<Vec<Ro
     query(
         conn,
         "SELECT steady FROM census_flags WHERE census = ?1 ORDER BY census",
-        &[whole(id)],
+        &[sql_integer(id)],
     )
 }
 
@@ -42,7 +42,7 @@ pub(crate) fn insert<S: Alter>(
     };
     tx.execute(
         "INSERT INTO census_flags (census, steady) VALUES (?1, ?2)",
-        &[whole(id), flag(steady)],
+        &[sql_integer(id), flag(steady)],
     )?;
     Ok(())
 }

@@ -14,7 +14,7 @@ returns-clause-added g c p t same is clean begun stands =
     let old = state g.S.Store c.args.tx.now.conn.now in
     let new = state g.S.Store c.execute.new.self.conn.now in
     let count = c.in_ok-execute.field-0 in
-    let a : owned c.whole.result ≡ Int (pos c.args.id) = search rules in
+    let a : owned c.sql_integer.result ≡ Int (pos c.args.id) = search rules in
     let b : owned c.flag.result ≡ Int (pos (flag_number t.steady)) = c.flag.ensures
     ∙ ap (λ s. Int (pos (flag_number s))) (sym same) in
     let ran : ExecutesInside 0 add_flag_text (given_flag c.args.id t.steady) old new (Ok count) =

@@ -16,7 +16,7 @@ returns g c =
     let old = state g.S.Store c.args.conn.now in
     let new = state g.S.Store c.query.new.conn in
     let it = c.query.ensures in
-    let id : owned c.whole.result ≡ Int c.args.id = search rules in
+    let id : owned c.sql_integer.result ≡ Int c.args.id = search rules in
     record {
       queries =
           looks_by g.S.Store c.args.conn.now c.query.new.conn flag_text _ flag_is.plain flag_asks

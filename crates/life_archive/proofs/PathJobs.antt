@@ -8,14 +8,14 @@ use Rattle.sqlite_trees.specs.Tree.{Trees}
 use Rattle.sqlite_store.specs.FileStore.{recovers}
 use Rattle.sqlite.specs.Files.{HoldsDatabase, over_files}
 use Rattle.sqlite_store.specs.declared.store.FileStore.{FileStore}
-use Rattle.life_store.specs.Left.{IsHonest, Left}
+use Rattle.life_store.specs.Recoverable.{IsHonest, Recoverable}
 use Rattle.life_store.specs.Opening.{AreLetGo}
 use Rattle.life_store.specs.Tables.{ArchiveView}
 use Rattle.life_desk.specs.declared.request.Request.{Request}
 use Rattle.life_desk.specs.declared.request.Reply.{Reply}
 use Rattle.life_desk.specs.Archive.{Archive}
 use Rattle.life_desk.specs.Validation.{validated}
-use Rattle.life_desk.specs.Represents.{Represents, LeftRepresents, kept_of, MigratedIsTheSame}
+use Rattle.life_desk.specs.Represents.{Represents, RecoveredRepresents, kept_of, MigratedIsTheSame}
 use Rattle.life_desk.specs.Run.{RequestRun, IsCrashOf}
 use Rattle.life_desk.proofs.Representing.{each_of}
 use Rattle.life_desk.proofs.Steps.{step_each, after_each}
@@ -49,8 +49,9 @@ run_each A B (q ∷ qs) [] is each = absurd is
 run_each A B (q ∷ qs) (r ∷ rs) (mid, step, rest) each = run_each mid B qs rs rest (step_each A q r mid step each)
 
 -- what a crash left of requests, said otherwise
-crash_as : (A : Archive) (qs : List Request) (rs : List Reply) (found : Left) (Q : Archive → Type 0)
-    → Each A → ((X : Archive) → Each X → LeftRepresents found X → Q X) → IsCrashOf A qs rs found → IsLeftOfRun A qs rs Q
+crash_as : (A : Archive) (qs : List Request) (rs : List Reply) (found : Recoverable) (Q : Archive → Type 0)
+    → Each A → ((X : Archive) → Each X → RecoveredRepresents found X → Q X) → IsCrashOf A qs rs found
+    → IsLeftOfRun A qs rs Q
 crash_as A qs rs found Q each says it =
     let there = run_each A it.mid it.front it.given it.run each in
     record {
@@ -85,7 +86,8 @@ module _ {D E : Type 0} (g : disk.Ghosts D) (h : disk.Ghosts E) (migrated : Migr
       migrated capacity it.opens.capacity A fits begins healthy in
       left_then A (messages_of it.serves.exchanges) (replies_of it.serves.exchanges) (FilesRepresent again)
       (λ B. LeavesOne h (BecomesBy two (under next B)) left) second
-      (left_as A (messages_of it.serves.exchanges) (replies_of it.serves.exchanges) (LeftRepresents db) (FilesRepresent
+      (left_as A (messages_of it.serves.exchanges) (replies_of it.serves.exchanges) (RecoveredRepresents db)
+      (FilesRepresent
       again) (each_of it.opened A mean) (λ X each means. (each, files_hold again db (kept_of X) means holds))
       (it.serves.crash A healthy mean clean db may))
   over_crash (by_deposit {member = member} {token = token} {known = known} {before = before}

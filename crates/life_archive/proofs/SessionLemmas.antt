@@ -16,7 +16,7 @@ use Rattle.sqlite_store.specs.declared.store.FileStore.{FileStore}
 use Rattle.sqlite_store.specs.FileStore.{view}
 use Rattle.sqlite.specs.Files.{HoldsDatabase, image_of, over_files}
 use Rattle.life_rle.specs.Stream.{incremented}
-use Rattle.life_store.specs.Crash.{NoMore}
+use Rattle.life_store.specs.Crash.{NothingNew}
 use Rattle.life_store.specs.declared.kept.Deposit.{Deposit}
 use Rattle.life_store.specs.declared.kept.Census.{Census}
 use Rattle.life_store.specs.Kept.{Kept}
@@ -26,7 +26,7 @@ use Rattle.life_store.specs.Tables.{ArchiveView, Holds, TreesHold, IsTransition,
 use Rattle.life_desk.specs.declared.request.Request.{Request}
 use Rattle.life_desk.specs.Archive.{Archive}
 use Rattle.life_desk.specs.Validation.{validated}
-use Rattle.life_desk.specs.Represents.{EachHasDeposit, Represents, LeftRepresents, kept_of, MigratedIsTheSame}
+use Rattle.life_desk.specs.Represents.{EachHasDeposit, Represents, RecoveredRepresents, kept_of, MigratedIsTheSame}
 use Rattle.life_desk.specs.Run.{RequestStep}
 use Rattle.life_desk.proofs.Representing.{holds_of, each_of, represents_same}
 use Rattle.life_desk.proofs.Runs.{IsSettled}
@@ -193,7 +193,7 @@ files_hold image db k mean holds = record { trees = db; held = ∣ holds ∣₁;
 
 module _ {D : Type 0} {g : disk.Ghosts D} (a mid last : ArchiveView (FileStore D g)) (files : Files D)
     (ms : List Message) (bytes : List ℕ) (served : SomeMessages over_files a mid ms bytes)
-    (counted : IsTransition over_files NoMore mid last)
+    (counted : IsTransition over_files NothingNew mid last)
     (honest : AreClean g files.log files.db → IsClean (view last.store)) where
   pub end_ok : HoldsTheSame mid.tables last.tables → IsHealthyIfClean over_files last → ((k : Kept)
       → IsTrue last.tables.is_healthy → Holds last.tables k → AreClean g files.log files.db → LeftHold g files k)
@@ -223,7 +223,7 @@ module _ {D : Type 0} {g : disk.Ghosts D} (a mid last : ArchiveView (FileStore D
       let healthy = up (served.taken.transition.crash.honest clean_mid) in
       let means = m healthy in
       ∥∥₁_map (left clean image may) (λ found.
-      left_as A ms bytes (LeftRepresents found.0) (FilesRepresent image) (each_of a A means)
+      left_as A ms bytes (RecoveredRepresents found.0) (FilesRepresent image) (each_of a A means)
       (λ X each mean. (each, files_hold image found.0 (kept_of X) mean found.2))
       (left_safely over_files a mid ms bytes law served A healthy means clean_mid found.0
       (kept_before clean_last found.0 found.1)))

@@ -22,7 +22,7 @@ use Rattle.life_store.specs.Migration.{Migrated}
 use Rattle.life_store.specs.Kept.{Kept}
 use Rattle.life_store.specs.Opening.{FilesHold, FilesHoldFirst, ListNothing, AreLetGo, AreRefusedAs, HaveFailedSince}
 use Rattle.life_store.specs.Opening.{nothing_kept, without_log}
-use Rattle.life_store.specs.Left.{IsHonest}
+use Rattle.life_store.specs.Recoverable.{IsHonest}
 use Rattle.life_store.specs.Tables.{ArchiveView, Holds, IsHealthyIfClean}
 use Rattle.life_desk.specs.declared.request.Request.{Request}
 use Rattle.life_desk.specs.declared.request.Request.TheVariants as ask

@@ -12,7 +12,7 @@ use Rattle.sqlite_store.specs.declared.store.FileStore.{FileStore}
 use Rattle.sqlite.specs.Files.{image_of, over_files}
 use Rattle.life_rle.specs.Stream.{incremented}
 use Rattle.life_store.specs.Opening.{FilesHold, FilesHoldFirst, ListNothing}
-use Rattle.life_store.specs.Left.{IsHonest, Left, MayBeLeft}
+use Rattle.life_store.specs.Recoverable.{IsHonest, Recoverable, MayBeRecovered}
 use Rattle.life_store.specs.Tables.{ArchiveView, IsHealthyIfClean}
 use Rattle.life_desk.specs.Archive.{Archive}
 use Rattle.life_desk.specs.Represents.{EachHasDeposit, Represents, kept_of}
@@ -127,7 +127,7 @@ pub record ServesConnections {S : Type 0} (g : Ghosts S) (count : ℕ) (old new 
   pub served : ByArchive g (Runs (messages_of exchanges) (replies_of exchanges)) old new
   pub own_refusals : MessageRun (AnswersMessage AnswersFirmly) tt (messages_of exchanges) (replies_of exchanges) tt
   pub crash : (A : Archive) → IsTrue old.tables.is_healthy → Represents old A → IsHonest g new
-      → (found : Left) → MayBeLeft g new found
+      → (found : Recoverable) → MayBeRecovered g new found
       → IsServedUntil A (messages_of exchanges) (replies_of exchanges) found
 
 -- ---- over files

@@ -4,7 +4,7 @@ ghost use Rattle.sqlite_wal.specs.Reads.{AreClean};
 ghost use Rattle.sqlite.specs.Files.{image_of};
 ghost use Rattle.sqlite_trees.specs.Tree.{Trees};
 ghost use Rattle.life_store.specs.Kept.{Kept};
-ghost use Rattle.life_store.specs.Crash.{NoMore};
+ghost use Rattle.life_store.specs.Crash.{NothingNew};
 ghost use Rattle.life_store.specs.Tables.{Holds, TreesHold, IsTransition, HoldsTheSame, IsHealthyIfClean};
 ghost use Rattle.life_store.specs.Opening.{is_capacity, FilesHold, ListNothing};
 ghost use Rattle.life_archive.specs.Session.{Traffic, CannotListen, ServesOne, ServesSome, ServesConnections, AreUsable, either, EndsSession, IsSession, SessionsCompose, SessionsComposeOverCrashes};
@@ -82,7 +82,7 @@ fn serve_and_count<S: Alter, C: Connections>(
     connections: &mut C,
     count: u64,
 ) -> Result<u64, Unavailable>
-    ensures run { (mid : _) × ServesSome S.Store count archive.old mid (C.traffic connections.old) (C.traffic connections.new) × IsTransition S.Store NoMore mid archive.new × HoldsTheSame mid.tables archive.new.tables }
+    ensures run { (mid : _) × ServesSome S.Store count archive.old mid (C.traffic connections.old) (C.traffic connections.new) × IsTransition S.Store NothingNew mid archive.new × HoldsTheSame mid.tables archive.new.tables }
     ensures healthy { OnOk result (IsHealthyIfClean S.Store archive.new) }
     ensures law { IsTrue archive.old.tables.is_healthy → (k : Kept) → Holds archive.old.tables k → (db : Trees) → S.Store.recovers archive.old.store db → TreesHold db k }
 {

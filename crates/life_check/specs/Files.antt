@@ -11,7 +11,7 @@ use Rattle.sqlite_wal.specs.Files.{outcomes}
 use Rattle.sqlite.specs.Files.{over_files, HoldsDatabase}
 use Rattle.life_store.specs.declared.fault.Unavailable.{Unavailable}
 use Rattle.life_store.specs.Kept.{Kept}
-use Rattle.life_store.specs.Left.{IsHonest}
+use Rattle.life_store.specs.Recoverable.{IsHonest}
 use Rattle.life_store.specs.Opening.{FilesHold, LeftHold, ShowsFound}
 use Rattle.life_store.specs.Tables.{ArchiveView, Holds, IsHealthyIfClean}
 use Rattle.life_desk.specs.Archive.{Archive}

@@ -9,7 +9,7 @@ use Rattle.life_desk.specs.declared.refusal.Refusal.TheVariants as no
 use Rattle.life_desk.specs.Archive.{Archive}
 use Rattle.life_desk.specs.DeskState.{RepresentChanged, RepresentChangedIf}
 use Rattle.life_desk.specs.LookupsState.{ForAllRepresented, RepresentsTheSame}
-use Rattle.life_desk.specs.Represents.{LeftRepresents}
+use Rattle.life_desk.specs.Represents.{RecoveredRepresents}
 use Rattle.life_desk.specs.Submission.{Adds, Refuses, by_token, stored_after}
 use Rattle.life_desk.proofs.Submissions.{Kind}
 use Rattle.life_desk.specs.Replies.{has_room, with_census, census_by_token, census_verdict}
@@ -32,7 +32,8 @@ module _ {S : Type 0} (old mid : ArchiveView S) (was : WasHealthy old.tables mid
       λ A m there.
           let yes : has_room A (k.list A) ≡ true = sym (tells A h.0 m) ∙ is in
           subst
-          (λ b. LeftRepresents db (k.with_list A (stored_after (k.list A) (if b then Adds x else Refuses no.Full))))
+          (λ b. RecoveredRepresents db (k.with_list A
+          (stored_after (k.list A) (if b then Adds x else Refuses no.Full))))
           (sym yes) (h.1 A (same A h.0 m) there),
     )
 
@@ -42,7 +43,7 @@ module _ {S : Type 0} (old mid : ArchiveView S) (was : WasHealthy old.tables mid
         → RepresentChangedIf old IsThere (λ A. after_token (find A) A) db
     token_new find tells h = (
       was h.0,
-      λ A m there. subst (λ o. LeftRepresents db (after_token o A)) (tells A h.0 m) (h.1 A (same A h.0 m) there),
+      λ A m there. subst (λ o. RecoveredRepresents db (after_token o A)) (tells A h.0 m) (h.1 A (same A h.0 m) there),
     )
 
   -- the token of the census is new
@@ -63,5 +64,6 @@ module _ {S : Type 0} (old mid : ArchiveView S) (was : WasHealthy old.tables mid
     was h.0,
     λ A m first.
         let there : numbered A.deposits c.deposit ≡ Some d = sym (tells A h.0 m) ∙ is in
-        subst (λ v. LeftRepresents db (with_census A v)) (verdict_new A c d first there) (h.1 A (same A h.0 m) there),
+        subst (λ v. RecoveredRepresents db (with_census A v)) (verdict_new A c d first there)
+        (h.1 A (same A h.0 m) there),
   )

@@ -11,7 +11,7 @@ use Rattle.life_store.specs.declared.kept.Deposit.{Deposit}
 use Rattle.life_store.specs.declared.kept.Census.{Census}
 use Rattle.life_store.specs.Kept.{Tallied, numbered, share, total_of}
 use Rattle.life_store.specs.Stored.{IsFiled}
-use Rattle.life_store.specs.Crash.{NoMore}
+use Rattle.life_store.specs.Crash.{NothingNew}
 use Rattle.life_store.specs.Tables.{ArchiveView, IsHealthyIfClean, Holds, TreesHold, HoldChanged, IsTransition}
 use Rattle.life_store.specs.Tables.{HoldsTheSame, AddsDeposit, AddsCensus}
 use Rattle.life_desk.specs.Archive.{Archive, tally_at, tally_for, steady_at, steady_for, clusters_in, clusters_with}
@@ -82,7 +82,7 @@ represents_same old new A transition keeps healthy m =
 
 -- a call that looks, said of archives
 pub looks_as : {S X E : Type 0} {g : Ghosts S} {Q : Archive → X → Type 0} (old new : ArchiveView S) (r : Result X E)
-    → IsTransition g NoMore old new → OnOk r (IsHealthyIfClean g new) → HoldsTheSame old.tables new.tables
+    → IsTransition g NothingNew old new → OnOk r (IsHealthyIfClean g new) → HoldsTheSame old.tables new.tables
     → ((A : Archive) → IsTrue new.tables.is_healthy → Holds old.tables (kept_of A) → IfOk r (Q A))
     → LooksUp g old new r Q
 looks_as old new r transition healthy keeps value = record {

@@ -1,8 +1,8 @@
 -- What the private functions for each kind of request leave behind.
 use Rattle.std.specs.Prelude.{◌≡◌, ◌⊎◌, true, Option, None, Some, Result, IfOk, OnOk, IsTrue, MatchResult}
 use Rattle.sqlite_trees.specs.declared.store.Store.{Ghosts}
-use Rattle.life_store.specs.Crash.{NoMore}
-use Rattle.life_store.specs.Left.{Left}
+use Rattle.life_store.specs.Crash.{NothingNew}
+use Rattle.life_store.specs.Recoverable.{Recoverable}
 use Rattle.life_store.specs.Tables.{ArchiveView, IsTransition, IsHealthyIfClean}
 use Rattle.life_store.specs.declared.fault.Unavailable.{Unavailable}
 use Rattle.life_store.specs.declared.kept.Deposit.{Deposit}
@@ -10,7 +10,7 @@ use Rattle.life_desk.specs.declared.refusal.Refusal.TheVariants as no
 use Rattle.life_desk.specs.declared.request.Reply.{Reply}
 use Rattle.life_desk.specs.declared.request.Reply.TheVariants as says
 use Rattle.life_desk.specs.Archive.{Archive}
-use Rattle.life_desk.specs.Represents.{Represents, LeftRepresents}
+use Rattle.life_desk.specs.Represents.{Represents, RecoveredRepresents}
 use Rattle.life_desk.specs.Replies.{acknowledges}
 
 -- what a call leaves, if the database is healthy after it and the tables represented an archive:
@@ -41,12 +41,14 @@ SpeaksIfHealthy g new result gives leaves = IfOk result (λ r. IsHealthyIfClean 
 
 -- the database was healthy, and if this holds of an archive that its tables represented, the trees represent what the
 -- change makes of it
-abbrev pub RepresentChangedIf : {S : Type 0} → ArchiveView S → (Archive → Type 0) → (Archive → Archive) → Left → Type 0
+abbrev pub RepresentChangedIf : {S : Type 0} → ArchiveView S → (Archive → Type 0) → (Archive → Archive) → Recoverable
+    → Type 0
 RepresentChangedIf old where_this change found =
-    IsTrue old.tables.is_healthy × ((A : Archive) → Represents old A → where_this A → LeftRepresents found (change A))
+    IsTrue old.tables.is_healthy × ((A : Archive) → Represents old A → where_this A
+    → RecoveredRepresents found (change A))
 
 -- the same for every archive
-abbrev pub RepresentChanged : {S : Type 0} → ArchiveView S → (Archive → Archive) → Left → Type 0
+abbrev pub RepresentChanged : {S : Type 0} → ArchiveView S → (Archive → Archive) → Recoverable → Type 0
 RepresentChanged old change found = RepresentChangedIf old (λ A. Unit {0}) change found
 
 -- what is acknowledged was done by a database that is healthy, unless its disk has lied
@@ -66,7 +68,7 @@ reused_reply (Some d) = says.Refused no.TokenReused
 -- reply is this one, while the archive stays.
 pub record OnlyShows {S : Type 0} (g : Ghosts S) (old new : ArchiveView S) (result : Result Reply Unavailable)
     (gives : Archive → Reply → Type 0) : Type 0 where
-  pub transition : IsTransition g NoMore old new
+  pub transition : IsTransition g NothingNew old new
   pub promised : Promises g new result
   pub healthy : OnOk result (IsHealthyIfClean g new)
   pub effect : Acts old new result gives (λ A. A)

@@ -20,7 +20,7 @@ use Rattle.life_census.specs.Steady.{IsSteady}
 use Rattle.life_store.specs.declared.kept.Deposit.{Deposit}
 use Rattle.life_store.specs.declared.kept.Census.{Census}
 use Rattle.life_store.specs.Kept.{numbered}
-use Rattle.life_store.specs.Left.{IsHonest}
+use Rattle.life_store.specs.Recoverable.{IsHonest}
 use Rattle.life_store.specs.Tables.{ArchiveView, HasFailed}
 use Rattle.life_desk.specs.declared.request.Request.{Request}
 use Rattle.life_desk.specs.declared.request.Request.TheVariants as ask

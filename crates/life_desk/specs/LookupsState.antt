@@ -1,7 +1,7 @@
 -- What the private functions that ask the archive preserve and return.
 use Rattle.std.specs.Prelude.{Result, IfOk, OnOk, IsTrue}
 use Rattle.sqlite_trees.specs.declared.store.Store.{Ghosts}
-use Rattle.life_store.specs.Crash.{NoMore}
+use Rattle.life_store.specs.Crash.{NothingNew}
 use Rattle.life_store.specs.Tables.{ArchiveView, IsTransition, IsHealthyIfClean}
 use Rattle.life_desk.specs.Archive.{Archive}
 use Rattle.life_desk.specs.Represents.{Represents}
@@ -18,7 +18,7 @@ RepresentsTheSame old new = (A : Archive) → IsTrue new.tables.is_healthy → R
 -- tables represent what they did, and the answer is what `Tells` says of that.
 pub record LooksUp {S X E : Type 0} (g : Ghosts S) (old new : ArchiveView S) (result : Result X E)
     (Tells : Archive → X → Type 0) : Type 0 where
-  pub transition : IsTransition g NoMore old new
+  pub transition : IsTransition g NothingNew old new
   pub healthy : OnOk result (IsHealthyIfClean g new)
   pub same : RepresentsTheSame old new
   pub value : ForAllRepresented old new (λ A. IfOk result (Tells A))

@@ -11,7 +11,7 @@ use Rattle.life_store.specs.declared.kept.Census.{Census}
 use Rattle.life_store.specs.Kept.{Kept, Tallied, numbered}
 use Rattle.life_store.specs.Migration.{Migrated}
 use Rattle.life_store.specs.Opening.{nothing_kept}
-use Rattle.life_store.specs.Left.{Left, LeftHolds}
+use Rattle.life_store.specs.Recoverable.{Recoverable, RecoveredHolds}
 use Rattle.life_store.specs.Tables.{Tables, ArchiveView, Holds}
 use Rattle.life_desk.specs.Archive.{Archive, tally_at, steady_at}
 
@@ -50,8 +50,8 @@ unfoldable pub Represents : {S : Type 0} → ArchiveView S → Archive → Type 
 Represents t A = IsRepresented t.tables t.capacity A
 
 -- The trees represent the archive as opening finds it; opening sets the capacity.
-abbrev pub LeftRepresents : Left → Archive → Type 0
-LeftRepresents found A = LeftHolds found (kept_of A)
+abbrev pub RecoveredRepresents : Recoverable → Archive → Type 0
+RecoveredRepresents found A = RecoveredHolds found (kept_of A)
 
 -- A new archive has neither deposits nor censuses.
 abbrev pub NewIsEmpty : Type 0

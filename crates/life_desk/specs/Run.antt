@@ -5,7 +5,7 @@ use Rattle.std.specs.List.{AllByRecursion}
 use Rattle.sqlite_trees.specs.declared.store.Store.{Ghosts}
 use Rattle.life_store.specs.declared.kept.Deposit.{Deposit}
 use Rattle.life_store.specs.declared.kept.Census.{Census}
-use Rattle.life_store.specs.Left.{IsHonest, Left, MayBeLeft}
+use Rattle.life_store.specs.Recoverable.{IsHonest, Recoverable, MayBeRecovered}
 use Rattle.life_store.specs.Tables.{ArchiveView, IsTransition}
 use Rattle.life_desk.specs.declared.refusal.Refusal.TheVariants as no
 use Rattle.life_desk.specs.declared.request.Request.{Request}
@@ -14,7 +14,7 @@ use Rattle.life_desk.specs.declared.request.Reply.TheVariants as says
 use Rattle.life_desk.specs.Archive.{Archive}
 use Rattle.life_desk.specs.Validation.{validated}
 use Rattle.life_desk.specs.Replies.{IsReply, after, acknowledges}
-use Rattle.life_desk.specs.Represents.{Represents, LeftRepresents}
+use Rattle.life_desk.specs.Represents.{Represents, RecoveredRepresents}
 
 -- one request: its reply and its change; or, if its own fields are valid, it is unavailable and nothing changes
 pub data RequestStep (A : Archive) (q : Request) : Reply → Archive → Type 0 where
@@ -52,7 +52,7 @@ PromiseNothing rs = AllByRecursion (λ r. acknowledges r ≡ false) rs
 
 -- The trees represent the archive after the first requests of a run from A, or after one request more; and only the
 -- replies to the first requests say that something is stored.
-pub record IsCrashOf (A : Archive) (qs : List Request) (rs : List Reply) (found : Left) : Type 0 where
+pub record IsCrashOf (A : Archive) (qs : List Request) (rs : List Reply) (found : Recoverable) : Type 0 where
   pub front : List Request
   pub back : List Request
   pub given : List Reply
@@ -61,16 +61,16 @@ pub record IsCrashOf (A : Archive) (qs : List Request) (rs : List Reply) (found 
   pub replies : rs ≡ given ++ rest
   pub mid : Archive
   pub run : RequestRun A front given mid
-  pub left : LeftRepresents found mid
-      ⊎ ((next : Request) × (more : List Request) × (back ≡ next ∷ more) × LeftRepresents found (after mid next))
+  pub left : RecoveredRepresents found mid
+      ⊎ ((next : Request) × (more : List Request) × (back ≡ next ∷ more) × RecoveredRepresents found (after mid next))
   pub unpromised : PromiseNothing rest
 
 -- What a crash may leave of requests: what it might have left before them, if no reply says that something is stored;
 -- or the database was healthy, and the trees are what a crash leaves of a run from any archive that its tables
 -- represented.
-abbrev pub MayBeLeftOf : {S : Type 0} → Ghosts S → ArchiveView S → List Request → List Reply → Left → Type 0
-MayBeLeftOf g old qs rs found =
-    (MayBeLeft g old found × PromiseNothing rs)
+abbrev pub MayBeRecoveredOf : {S : Type 0} → Ghosts S → ArchiveView S → List Request → List Reply → Recoverable → Type 0
+MayBeRecoveredOf g old qs rs found =
+    (MayBeRecovered g old found × PromiseNothing rs)
     ⊎ (IsTrue old.tables.is_healthy × ((A : Archive) → Represents old A → IsCrashOf A qs rs found))
 
 -- The requests were answered by the store. If the database is healthy at the end, it was healthy at the start, and from
@@ -85,7 +85,7 @@ pub record Answered {S : Type 0} (g : Ghosts S) (old new : ArchiveView S) (qs : 
   pub replied : IsHonest g new → IsTrue old.tables.is_healthy → (A : Archive) → Represents old A
       → (B : Archive) × RequestRun A qs rs B × (IsTrue new.tables.is_healthy → Represents new B)
   pub shut : IsHonest g new → old.tables.is_healthy ≡ false → (A : Archive) → RequestRun A qs rs A
-  pub left : IsHonest g new → (found : Left) → MayBeLeft g new found → MayBeLeftOf g old qs rs found
+  pub left : IsHonest g new → (found : Recoverable) → MayBeRecovered g new found → MayBeRecoveredOf g old qs rs found
 
 -- ---- crashes
 
@@ -94,11 +94,12 @@ module _ {S : Type 0} (g : Ghosts S) where
   -- after a prefix of the requests, or after one request more; and whatever was acknowledged is there.
   abbrev pub IsCrashSafe : ArchiveView S → ArchiveView S → List Request → List Reply → Type 0
   IsCrashSafe old new qs rs =
-      (A : Archive) → IsTrue old.tables.is_healthy → Represents old A → IsHonest g new → (found : Left)
-      → MayBeLeft g new found → IsCrashOf A qs rs found
+      (A : Archive) → IsTrue old.tables.is_healthy → Represents old A → IsHonest g new → (found : Recoverable)
+      → MayBeRecovered g new found → IsCrashOf A qs rs found
 
   -- If the database is healthy, a crash leaves the archive that the tables represent, and nothing else.
   abbrev pub IsDurable : ArchiveView S → Type 0
   IsDurable new =
-      (B : Archive) → IsTrue new.tables.is_healthy → Represents new B → (found : Left) → MayBeLeft g new found
-      → LeftRepresents found B
+      (B : Archive) → IsTrue new.tables.is_healthy → Represents new B → (found : Recoverable)
+      → MayBeRecovered g new found
+      → RecoveredRepresents found B

@@ -2,7 +2,7 @@
 ghost use Rattle.std.specs.Prelude.{◌≡◌, ◌≤◌, ◌∷◌, ◌⊎◌, [], bytes_eq, if◌then◌else◌, None, IfErr, IfOk, IsTrue, OnErr, OnOk, length, option_map, Some, true};
 ghost use Rattle.life_rle.specs.Record.{IsInside};
 ghost use Rattle.life_store.specs.Kept.{numbered, deposit_by, census_by, listed_after};
-ghost use Rattle.life_store.specs.Crash.{NoMore};
+ghost use Rattle.life_store.specs.Crash.{NothingNew};
 ghost use Rattle.life_store.specs.Tables.{IsTransition, IsHealthyIfClean, HoldsTheSame, HasOrder};
 ghost use Rattle.life_desk.specs.declared.request.Reply.TheVariants as says;
 ghost use Rattle.life_desk.specs.declared.refusal.Refusal.TheVariants as refusals;
@@ -393,7 +393,7 @@ fn total<S: Alter>(
 ) -> Result<Reply, Unavailable>
     requires some { 1 ≤ limit }
     requires few { limit ≤ PERIOD_LIMIT }
-    ensures transition { IsTransition S.Store NoMore archive.old archive.new }
+    ensures transition { IsTransition S.Store NothingNew archive.old archive.new }
     ensures promised { Promises S.Store archive.new result }
     ensures healthy { SpeaksIfHealthy S.Store archive.new result (λ A r. IsTotal A rule.now text.now limit r) (λ A. A) }
     ensures effect { Acts archive.old archive.new result (λ A r. IsTotal A rule.now text.now limit r) (λ A. A) }
@@ -416,7 +416,7 @@ fn total_under<S: Alter>(
 ) -> Result<Reply, Unavailable>
     requires some { 1 ≤ limit }
     requires few { limit ≤ PERIOD_LIMIT }
-    ensures transition { IsTransition S.Store NoMore archive.old archive.new }
+    ensures transition { IsTransition S.Store NothingNew archive.old archive.new }
     ensures promised { Promises S.Store archive.new result }
     ensures healthy { SpeaksIfHealthy S.Store archive.new result (λ A r. IsTotalUnder A (read_rule rule.now) text.now limit r) (λ A. A) }
     ensures effect { Acts archive.old archive.new result (λ A r. IsTotalUnder A (read_rule rule.now) text.now limit r) (λ A. A) }

@@ -3,7 +3,7 @@ ghost use Rattle.std.specs.Prelude.{◌≡◌, ◌&&◌, ◌+◌, ◌++◌, ◌�
 ghost use Rattle.life_rle.specs.Record.{IsInside};
 ghost use Rattle.life_rle.specs.Writer.{text};
 ghost use Rattle.life_store.specs.Kept.{numbered, deposit_by, file_of_deposit, census_by, listed_after, kept_census};
-ghost use Rattle.life_store.specs.Crash.{NoMore};
+ghost use Rattle.life_store.specs.Crash.{NothingNew};
 ghost use Rattle.life_store.specs.Tables.{IsTransition, HasOrder, IsHealthyIfClean};
 ghost use Rattle.life_store.specs.declared.kept.Deposit.{Deposit as Kept};
 ghost use Rattle.life_desk.specs.Archive.{clusters_with, tally_at, tally_for, steady_at, steady_for};

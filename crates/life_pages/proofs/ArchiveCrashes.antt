@@ -5,7 +5,7 @@ use Rattle.sqlite_trees.specs.Tree.{Trees}
 use Rattle.life_desk.specs.declared.request.Request.{Request}
 use Rattle.life_desk.specs.declared.request.Reply.{Reply}
 use Rattle.life_desk.specs.Archive.{Archive}
-use Rattle.life_desk.specs.Represents.{LeftRepresents}
+use Rattle.life_desk.specs.Represents.{RecoveredRepresents}
 use Rattle.life_desk.specs.Replies.{after}
 use Rattle.life_desk.specs.Run.{RequestStep, RequestRun, IsCrashOf, PromiseNothing}
 use Rattle.life_pages.specs.declared.fault.MessageRefusal.{MessageRefusal}
@@ -19,9 +19,9 @@ use Rattle.life_pages.specs.Archive.{SaysNothing, SayNothing, IsServedUntil}
 -- the bytes say nothing of what is kept, the one before it or the one after its request.
 abbrev pub LeftOfOne : Archive → Result Request MessageRefusal → List ℕ → Trees → Type 0
 LeftOfOne A x bytes db =
-    ((B : Archive) × AnswersAsked RequestStep A x bytes B × LeftRepresents db B)
-    ⊎ (SaysNothing bytes × (LeftRepresents db A
-    ⊎ ((next : Request) × (x ≡ Ok next) × LeftRepresents db (after A next))))
+    ((B : Archive) × AnswersAsked RequestStep A x bytes B × RecoveredRepresents db B)
+    ⊎ (SaysNothing bytes × (RecoveredRepresents db A
+    ⊎ ((next : Request) × (x ≡ Ok next) × RecoveredRepresents db (after A next))))
 
 module _ (A : Archive) (q : Request) (r : Reply) (bytes : List ℕ) (made : bytes ≡ bytes_of r) (db : Trees) where
   says_nothing : PromiseNothing (r ∷ []) → SaysNothing bytes
@@ -29,16 +29,16 @@ module _ (A : Archive) (q : Request) (r : Reply) (bytes : List ℕ) (made : byte
 
   of_parts : (front back : List Request) (given rest : List Reply) (mid : Archive) → q ∷ [] ≡ front ++ back
       → r ∷ [] ≡ given ++ rest → RequestRun A front given mid
-      → LeftRepresents db mid ⊎ ((next : Request) × (more : List Request) × (back ≡ next ∷ more)
-      × LeftRepresents db (after mid next)) → PromiseNothing rest → LeftOfOne A (Ok q) bytes db
+      → RecoveredRepresents db mid ⊎ ((next : Request) × (more : List Request) × (back ≡ next ∷ more)
+      × RecoveredRepresents db (after mid next)) → PromiseNothing rest → LeftOfOne A (Ok q) bytes db
   of_parts [] back [] rest mid e f run (inl mean) none =
-      inr (says_nothing (subst PromiseNothing (sym f) none), inl (subst (λ X. LeftRepresents db X) run mean))
+      inr (says_nothing (subst PromiseNothing (sym f) none), inl (subst (λ X. RecoveredRepresents db X) run mean))
   of_parts [] back [] rest mid e f run (inr (next, more, is, mean)) none =
       let both = e ∙ is in
       let same : q ≡ next = cc in
       inr (
         says_nothing (subst PromiseNothing (sym f) none),
-        inr (next, ap Ok same, subst (λ X. LeftRepresents db (after X next)) run mean),
+        inr (next, ap Ok same, subst (λ X. RecoveredRepresents db (after X next)) run mean),
       )
   of_parts [] back (s ∷ given) rest mid e f run left none = absurd run
   of_parts (p ∷ front) back [] rest mid e f run left none = absurd run
@@ -52,7 +52,7 @@ module _ (A : Archive) (q : Request) (r : Reply) (bytes : List ℕ) (made : byte
           subst (λ x. RequestStep A q x next) (sym reply) (subst (λ x. RequestStep A x s next) (sym same) step),
           made,
         ),
-        subst (λ X. LeftRepresents db X) run mean,
+        subst (λ X. RecoveredRepresents db X) run mean,
       )
   of_parts (p ∷ []) back (s ∷ []) rest mid e f (next, step, run) (inr (n, more, is, mean)) none =
       absurd (let empty : [] ≡ back = cc in let bad = empty ∙ is in cc)
@@ -66,7 +66,7 @@ module _ (A : Archive) (q : Request) (r : Reply) (bytes : List ℕ) (made : byte
 
 -- nothing was answered
 pub until_begun : (A : Archive) (ms : List Message) (bytes : List ℕ) (db : Trees) → SayNothing ms bytes
-    → LeftRepresents db A → IsServedUntil A ms bytes db
+    → RecoveredRepresents db A → IsServedUntil A ms bytes db
 until_begun A ms bytes db none mean = record {
   front = [];
   back = ms;

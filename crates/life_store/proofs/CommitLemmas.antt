@@ -9,7 +9,7 @@ use Rattle.sqlite_catalog.specs.Listing.{IsSound}
 use Rattle.sqlite.specs.Effect.{Database, IsDatabase}
 use Rattle.sqlite.specs.Held.{Held, state}
 use Rattle.sqlite.specs.State.{State, HasCleanDisk, Survives}
-use Rattle.life_store.specs.Crash.{NoMore, CrashLeaves}
+use Rattle.life_store.specs.Crash.{NothingNew, CrashLeaves}
 use Rattle.life_store.specs.CensusesState.{Parts}
 use Rattle.life_store.specs.CreatingState.{HasTables, IsNewArchive, IsMadeAnew}
 use Rattle.life_store.specs.Kept.{Kept}
@@ -26,14 +26,14 @@ use Rattle.life_store.proofs.MigrationLemmas.{first_parts, first_stands, migrate
 use Rattle.life_store.proofs.CrashLemmas.{crash_none, crash_by, crash_begun, crash_both, crash_last}
 
 module _ {S : Type 0} (g : Ghosts S) (old first last new : Held S)
-    (begun : first ≡ record old { in_transaction = true }) (ran : CrashLeaves g NoMore first.store last.store) where
+    (begun : first ≡ record old { in_transaction = true }) (ran : CrashLeaves g NothingNew first.store last.store) where
   inside : IsTrue first.in_transaction
   inside = subst (λ (h : Held S). IsTrue h.in_transaction) (sym begun) refl
 
   same : (state g first).now ≡ (state g old).now
   same = subst (λ (h : Held S). (state g h).now ≡ (state g old).now) (sym begun) refl
 
-  before : CrashLeaves g NoMore old.store last.store
+  before : CrashLeaves g NothingNew old.store last.store
   before = crash_last old.store first.store last.store (λ clean db none. none) (crash_begun g old first begun) ran
 
   -- one that was rolled back adds nothing
@@ -72,7 +72,7 @@ pub crash_as : {S : Type 0} {g : Ghosts S} {First Adds : Trees → Type 0} (a b 
     → (IsClean (g.view a) → (db : Trees) → First db → Adds db) → CrashLeaves g First a b → CrashLeaves g Adds a b
 crash_as a b says it = crash_last a a b says (crash_none a) it
 
-pub crash_more : {S : Type 0} {g : Ghosts S} {Adds : Trees → Type 0} (a b : S) → CrashLeaves g NoMore a b
+pub crash_more : {S : Type 0} {g : Ghosts S} {Adds : Trees → Type 0} (a b : S) → CrashLeaves g NothingNew a b
     → CrashLeaves g Adds a b
 crash_more a b it = crash_as a b (λ clean db none. absurd none) it
 

@@ -24,7 +24,7 @@ use Rattle.sqlite.specs.Held.{Held, state}
 use Rattle.sqlite.specs.Listing.{understood, reads_listing, if_select, is_select, listing_schema}
 use Rattle.sqlite.specs.State.{State, Survives, CommitsShowing, CommitsBy, MayWrite, IsNewestNamed, names_in, begins_at}
 use Rattle.sqlite.proofs.Callers.{IsPlain, command_of, statement_of}
-use Rattle.life_store.specs.Crash.{NoMore, CrashLeaves}
+use Rattle.life_store.specs.Crash.{NothingNew, CrashLeaves}
 use Rattle.life_store.proofs.Texts.{is_query, is_query_in, IsQueryText}
 
 pub crash_none : {S : Type 0} {g : Ghosts S} {Adds : Trees → Type 0} (s : S) → CrashLeaves g Adds s s
@@ -47,7 +47,7 @@ crash_both a b c one two before after = record {
 
 -- a call that adds nothing, and one that may add
 pub crash_last : {S : Type 0} {g : Ghosts S} {Last Adds : Trees → Type 0} (a b c : S)
-    → (IsClean (g.view b) → (db : Trees) → Last db → Adds db) → CrashLeaves g NoMore a b → CrashLeaves g Last b c
+    → (IsClean (g.view b) → (db : Trees) → Last db → Adds db) → CrashLeaves g NothingNew a b → CrashLeaves g Last b c
     → CrashLeaves g Adds a c
 crash_last a b c two before after = crash_both a b c (λ db none. absurd none) two before after
 
@@ -124,7 +124,7 @@ shows_none schema sql c is made = elim (cases_Bool (reads_listing schema sql)) [
 
 pub asks_nothing : {S : Type 0} (g : Ghosts S) (old new : Held S) (sql : List ℕ) (params : Row)
     → IsQueryText sql → CrashLeaves g (CommitsShowing sql params (state g old)) old.store new.store
-    → CrashLeaves g NoMore old.store new.store
+    → CrashLeaves g NothingNew old.store new.store
 unfolding CommitsShowing
 asks_nothing g old new sql params is it = record {
   honest = it.honest;

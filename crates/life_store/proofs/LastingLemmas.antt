@@ -6,7 +6,7 @@ use Rattle.sqlite_trees.specs.View.{doubt, IsClean}
 use Rattle.sqlite.specs.State.{State, Survives}
 use Rattle.sqlite_trees.specs.declared.store.Store.{Ghosts}
 use Rattle.sqlite.specs.Held.{Held, state}
-use Rattle.life_store.specs.Crash.{NoMore}
+use Rattle.life_store.specs.Crash.{NothingNew}
 use Rattle.life_store.specs.Tables.{Tables, ArchiveView, tables_of, StaysHealthy, IsTransition}
 use Rattle.life_store.proofs.CrashLemmas.{crash_none, crash_both}
 use Rattle.life_store.proofs.KeepLemmas.{healthy_is, healthy_from}
@@ -96,13 +96,13 @@ goes_both a b c one two first second = record {
 
 -- a call that adds nothing, and one that may add
 pub goes_last : {S : Type 0} {g : Ghosts S} {Last Adds : Trees → Type 0} (a b c : ArchiveView S)
-    → (IsClean (g.view b.store) → (db : Trees) → Last db → Adds db) → IsTransition g NoMore a b
+    → (IsClean (g.view b.store) → (db : Trees) → Last db → Adds db) → IsTransition g NothingNew a b
     → IsTransition g Last b c
     → IsTransition g Adds a c
 goes_last a b c two first second = goes_both a b c (λ db none. absurd none) two first second
 
 pub goes_then : {S : Type 0} {g : Ghosts S} {Adds : Trees → Type 0} (a b c : ArchiveView S)
-    → IsTransition g NoMore a b → IsTransition g Adds b c → IsTransition g Adds a c
+    → IsTransition g NothingNew a b → IsTransition g Adds b c → IsTransition g Adds a c
 goes_then a b c first second = goes_last a b c (λ clean db more. more) first second
 
 -- what a call adds, said otherwise
@@ -111,6 +111,7 @@ pub goes_as : {S : Type 0} {g : Ghosts S} {Last Adds : Trees → Type 0} (a b : 
 goes_as a b says it = goes_last a a b says (goes_none a) it
 
 -- a call that adds nothing adds no more than another may
-pub goes_more : {S : Type 0} {g : Ghosts S} {Adds : Trees → Type 0} (a b : ArchiveView S) → IsTransition g NoMore a b
+pub goes_more : {S : Type 0} {g : Ghosts S} {Adds : Trees → Type 0} (a b : ArchiveView S)
+    → IsTransition g NothingNew a b
     → IsTransition g Adds a b
 goes_more a b it = goes_as a b (λ clean db none. absurd none) it

@@ -20,7 +20,7 @@ pub mod TotalLemmas
 pub mod JoinLemmas
 pub mod SumLemmas
 pub mod CreatingLemmas
-pub mod LeftLemmas
+pub mod RecoverableLemmas
 pub mod OpenedLemmas
 pub mod UpdateLemmas
 pub mod MigrationLemmas

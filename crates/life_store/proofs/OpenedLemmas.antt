@@ -26,7 +26,7 @@ use Rattle.sqlite.specs.Files.{over_files}
 use Rattle.sqlite.specs.Held.{Held, AreDatabases}
 use Rattle.sqlite.specs.State.{State, IsLive, HasCleanDisk}
 use Rattle.sqlite.proofs.Theorems.{opens_again}
-use Rattle.life_store.specs.Crash.{NoMore, CrashLeaves}
+use Rattle.life_store.specs.Crash.{NothingNew, CrashLeaves}
 use Rattle.life_store.specs.Kept.{Kept}
 use Rattle.life_store.specs.Layout.{first_schema, archive_schema}
 use Rattle.life_store.specs.Migration.{HoldsFirst}
@@ -79,7 +79,7 @@ module _ {D : Type 0} {g : Ghosts D} (t : Tables) (was last : FileStore D g) (no
 
 -- .. and which is closed
 pub made_by_close : {D : Type 0} {g : Ghosts D} (t : Tables) (was : FileStore D g)
-    (conn : Held (FileStore D g)) (now : Files D) → SeenMayStay g → CrashLeaves over_files NoMore was conn.store
+    (conn : Held (FileStore D g)) (now : Files D) → SeenMayStay g → CrashLeaves over_files NothingNew was conn.store
     → (AreClean g now.log now.db → IsCopied conn now)
     → AreClean g now.log now.db → IsClean (view was) × AreLeftMade t was now
 made_by_close {D} {g} t was conn now stays crash copied clean =
@@ -99,7 +99,7 @@ made_by_close {D} {g} t was conn now stays crash copied clean =
 
 -- .. or whose close is refused
 pub made_by_refusal : {D : Type 0} {g : Ghosts D} (t : Tables) (was mid : FileStore D g) (now : Files D)
-    → CrashLeaves over_files NoMore was mid → AreLetGo mid now
+    → CrashLeaves over_files NothingNew was mid → AreLetGo mid now
     → (IsClean (view mid) → IsTrue (view was).is_open → IsForeign t) → AreClean g now.log now.db
     → IsClean (view was) × (IsTrue (view was).is_open → AreLeftMade t was now)
 made_by_refusal {D} {g} t was mid now crash gone foreign clean =

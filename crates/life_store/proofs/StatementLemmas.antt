@@ -11,7 +11,7 @@ use Rattle.sqlite.specs.Listing.{understood}
 use Rattle.sqlite.specs.State.{HasCleanDisk, Survives, Shown, CommitsShowing}
 use Rattle.sqlite.proofs.Callers.{IsPlain}
 use Rattle.life_store.specs.ExecutingState.{IsSeenAgain}
-use Rattle.life_store.specs.Crash.{NoMore}
+use Rattle.life_store.specs.Crash.{NothingNew}
 use Rattle.life_store.specs.Layout.{archive_schema}
 use Rattle.life_store.specs.Statements.{Withstands, Queries, StaysInside}
 use Rattle.life_store.specs.Tables.{tables_of}
@@ -38,7 +38,7 @@ withstands_begun g old new is = record { lasts = lasts_begun g old new is; crash
 
 -- a step that adds nothing, and one that may add
 pub withstands_last : {S : Type 0} {g : Ghosts S} {Last Adds : Trees → Type 0} (a b c : Held S)
-    → (IsClean (g.view b.store) → (db : Trees) → Last db → Adds db) → Withstands g NoMore a b
+    → (IsClean (g.view b.store) → (db : Trees) → Last db → Adds db) → Withstands g NothingNew a b
     → Withstands g Last b c → Withstands g Adds a c
 withstands_last {S} {g} a b c says before after = record {
   lasts = lasts_then (tables_of (state g a)) (tables_of (state g b)) (tables_of (state g c)) before.lasts after.lasts;
@@ -46,7 +46,7 @@ withstands_last {S} {g} a b c says before after = record {
 }
 
 pub withstands_then : {S : Type 0} {g : Ghosts S} {Adds : Trees → Type 0} (a b c : Held S)
-    → Withstands g NoMore a b → Withstands g Adds b c → Withstands g Adds a c
+    → Withstands g NothingNew a b → Withstands g Adds b c → Withstands g Adds a c
 withstands_then a b c before after = withstands_last a b c (λ clean db more. more) before after
 
 -- what a step adds, said otherwise
@@ -55,7 +55,7 @@ pub withstands_as : {S : Type 0} {g : Ghosts S} {Last Adds : Trees → Type 0} (
 withstands_as a b says it = withstands_last a a b says (withstands_none a) it
 
 -- a step that adds nothing adds no more than another may
-pub withstands_more : {S : Type 0} {g : Ghosts S} {Adds : Trees → Type 0} (a b : Held S) → Withstands g NoMore a b
+pub withstands_more : {S : Type 0} {g : Ghosts S} {Adds : Trees → Type 0} (a b : Held S) → Withstands g NothingNew a b
     → Withstands g Adds a b
 withstands_more a b it = withstands_as a b (λ clean db none. absurd none) it
 

@@ -8,8 +8,8 @@ use Rattle.sqlite_trees.specs.Tree.{Trees}
 use Rattle.sqlite_trees.specs.View.{IsClean}
 
 -- nothing
-abbrev pub NoMore : Trees → Type 0
-NoMore db = ⊥
+abbrev pub NothingNew : Trees → Type 0
+NothingNew db = ⊥
 
 -- If the disk has returned what was written so far, it had before; and a crash now leaves what it might have left
 -- before, or trees of which `Adds` holds.

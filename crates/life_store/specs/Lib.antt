@@ -6,7 +6,7 @@ pub mod Stored
 pub mod Crash
 pub mod Tables
 pub mod TreesOf
-pub mod Left
+pub mod Recoverable
 pub mod Statements
 pub mod DepositsState
 pub mod CensusesState

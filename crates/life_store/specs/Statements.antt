@@ -6,7 +6,7 @@ use Rattle.sqlite_trees.specs.Tree.{Trees}
 use Rattle.sqlite_trees.specs.View.{doubt}
 use Rattle.sqlite.specs.Held.{Held, state}
 use Rattle.sqlite.specs.State.{HasCleanDisk, KeepsCommit}
-use Rattle.life_store.specs.Crash.{NoMore, CrashLeaves}
+use Rattle.life_store.specs.Crash.{NothingNew, CrashLeaves}
 use Rattle.life_store.specs.Kept.{Kept}
 use Rattle.life_store.specs.Tables.{Tables, tables_of, Holds, TreesHold, WasHealthy, StaysHealthy, HoldsTheSame}
 use Rattle.life_store.specs.Tables.{ForAllHeld}
@@ -23,7 +23,7 @@ pub record Queries {S A E : Type 0} (g : Ghosts S) (old new : Held S) (result : 
   pub lost : WasHealthy (tables_of (state g old)) (tables_of (state g new))
   pub keeps : HoldsTheSame (tables_of (state g old)) (tables_of (state g new))
   pub up : HasCleanDisk (state g new) → OnOk result (IsTrue (state g new).is_open)
-  pub withstands : Withstands g NoMore old new
+  pub withstands : Withstands g NothingNew old new
 
 -- The same, and its answer is what `Tells` says of whatever the tables represented.
 pub record QueriesFor {S A E : Type 0} (g : Ghosts S) (old new : Held S) (result : Result A E)
@@ -57,4 +57,4 @@ pub record StaysInside {S A E : Type 0} (g : Ghosts S) (old new : MutBor (Held S
   -- a disk that has returned what was written had done so before
   pub clean : doubt (state g old.now).is_clean ≤ doubt (state g new.now).is_clean
   -- a crash leaves nothing new
-  pub crash : CrashLeaves g NoMore old.now.store new.now.store
+  pub crash : CrashLeaves g NothingNew old.now.store new.now.store

@@ -8,7 +8,7 @@ ghost use Rattle.sqlite.specs.Held.{state, AreDatabases};
 ghost use Rattle.life_rle.specs.Record.{IsInside};
 ghost use Rattle.life_rle.specs.Writer.{text};
 ghost use Rattle.life_store.specs.Kept.{Kept, numbered, deposit_by, file_of_deposit, listed_after, kept_census, census_by, censuses_of, total_of};
-ghost use Rattle.life_store.specs.Crash.{NoMore};
+ghost use Rattle.life_store.specs.Crash.{NothingNew};
 ghost use Rattle.life_store.specs.Tables.{tables_of, IsTransition, IsHealthyIfClean, HoldsTheSame, ForAllHeld, HasOrder, AddsDeposit, AddsCensus, HoldChanged, TreesHold, Holds};
 
 use crate::fault::Unavailable;
@@ -101,7 +101,7 @@ impl<S: Alter> Archive<S> {
 
     /// How many deposits there are: the greatest number. No table is walked.
     pub fn count_deposits(&mut self) -> Result<u64, Unavailable>
-        ensures transition { IsTransition S.Store NoMore self.old self.new }
+        ensures transition { IsTransition S.Store NothingNew self.old self.new }
         ensures healthy { OnOk result (IsHealthyIfClean S.Store self.new) }
         ensures same { HoldsTheSame self.old.tables self.new.tables }
         ensures value { ForAllHeld self.old.tables self.new.tables (λ k. IfOk result (λ n. n ≡ length k.deposits)) }
@@ -112,7 +112,7 @@ impl<S: Alter> Archive<S> {
 
     /// The deposit with the number, or `None`.
     pub fn deposit_of(&mut self, alloc: Global, id: u64) -> Result<Option<Deposit>, Unavailable>
-        ensures transition { IsTransition S.Store NoMore self.old self.new }
+        ensures transition { IsTransition S.Store NothingNew self.old self.new }
         ensures healthy { OnOk result (IsHealthyIfClean S.Store self.new) }
         ensures same { HoldsTheSame self.old.tables self.new.tables }
         ensures value { ForAllHeld self.old.tables self.new.tables (λ k. IfOk result (λ d. d ≡ numbered k.deposits id)) }
@@ -133,7 +133,7 @@ impl<S: Alter> Archive<S> {
     /// The pattern file of the deposit with the number, or `None`: the stored canonical text. It is parsed, written again,
     /// compared, and returned unchanged.
     pub fn file_of(&mut self, alloc: Global, id: u64) -> Result<Option<Vec<u8>>, Unavailable>
-        ensures transition { IsTransition S.Store NoMore self.old self.new }
+        ensures transition { IsTransition S.Store NothingNew self.old self.new }
         ensures healthy { OnOk result (IsHealthyIfClean S.Store self.new) }
         ensures same { HoldsTheSame self.old.tables self.new.tables }
         ensures value { ForAllHeld self.old.tables self.new.tables (λ k. IfOk result (λ file. option_map (λ v. v.items) file ≡ option_map (λ d. text d.content) (numbered k.deposits id))) }
@@ -157,7 +157,7 @@ impl<S: Alter> Archive<S> {
         member: &[u8],
         token: &[u8],
     ) -> Result<Option<(u64, Deposit)>, Unavailable>
-        ensures transition { IsTransition S.Store NoMore self.old self.new }
+        ensures transition { IsTransition S.Store NothingNew self.old self.new }
         ensures healthy { OnOk result (IsHealthyIfClean S.Store self.new) }
         ensures same { HoldsTheSame self.old.tables self.new.tables }
         ensures value { ForAllHeld self.old.tables self.new.tables (λ k. IfOk result (λ d. d ≡ deposit_by member.now token.now k.deposits)) }
@@ -175,7 +175,7 @@ impl<S: Alter> Archive<S> {
         member: &[u8],
         token: &[u8],
     ) -> Result<Option<(u64, Vec<u8>)>, Unavailable>
-        ensures transition { IsTransition S.Store NoMore self.old self.new }
+        ensures transition { IsTransition S.Store NothingNew self.old self.new }
         ensures healthy { OnOk result (IsHealthyIfClean S.Store self.new) }
         ensures same { HoldsTheSame self.old.tables self.new.tables }
         ensures value { ForAllHeld self.old.tables self.new.tables (λ k. IfOk result (λ f. option_map {U = ℕ × List ℕ} (λ p. (p.0, p.1.items)) f ≡ option_map file_of_deposit (deposit_by member.now token.now k.deposits))) }
@@ -186,7 +186,7 @@ impl<S: Alter> Archive<S> {
 
     /// The first hundred deposits with a greater number, a line each. Any number is valid.
     pub fn deposits_after(&mut self, alloc: Global, id: u64) -> Result<Listing, Unavailable>
-        ensures transition { IsTransition S.Store NoMore self.old self.new }
+        ensures transition { IsTransition S.Store NothingNew self.old self.new }
         ensures healthy { OnOk result (IsHealthyIfClean S.Store self.new) }
         ensures same { HoldsTheSame self.old.tables self.new.tables }
         ensures value { ForAllHeld self.old.tables self.new.tables (λ k. IfOk result (λ lines. lines ≡ listed_after id k.deposits)) }
@@ -223,7 +223,7 @@ impl<S: Alter> Archive<S> {
 
     /// How many censuses there are: the greatest number.
     pub fn count_censuses(&mut self) -> Result<u64, Unavailable>
-        ensures transition { IsTransition S.Store NoMore self.old self.new }
+        ensures transition { IsTransition S.Store NothingNew self.old self.new }
         ensures healthy { OnOk result (IsHealthyIfClean S.Store self.new) }
         ensures same { HoldsTheSame self.old.tables self.new.tables }
         ensures value { ForAllHeld self.old.tables self.new.tables (λ k. IfOk result (λ n. n ≡ length k.censuses)) }
@@ -234,7 +234,7 @@ impl<S: Alter> Archive<S> {
 
     /// The census with the number, or `None`.
     pub fn census_of(&mut self, alloc: Global, id: u64) -> Result<Option<KeptCensus>, Unavailable>
-        ensures transition { IsTransition S.Store NoMore self.old self.new }
+        ensures transition { IsTransition S.Store NothingNew self.old self.new }
         ensures healthy { OnOk result (IsHealthyIfClean S.Store self.new) }
         ensures same { HoldsTheSame self.old.tables self.new.tables }
         ensures value { ForAllHeld self.old.tables self.new.tables (λ k. IfOk result (λ c. c ≡ option_map kept_census (numbered k.censuses id))) }
@@ -258,7 +258,7 @@ impl<S: Alter> Archive<S> {
         member: &[u8],
         token: &[u8],
     ) -> Result<Option<(u64, Census)>, Unavailable>
-        ensures transition { IsTransition S.Store NoMore self.old self.new }
+        ensures transition { IsTransition S.Store NothingNew self.old self.new }
         ensures healthy { OnOk result (IsHealthyIfClean S.Store self.new) }
         ensures same { HoldsTheSame self.old.tables self.new.tables }
         ensures value { ForAllHeld self.old.tables self.new.tables (λ k. IfOk result (λ c. c ≡ census_by member.now token.now (censuses_of k))) }
@@ -297,7 +297,7 @@ impl<S: Alter> Archive<S> {
 
     /// The rows of the tally of a stored census, in byte order of their codes.
     fn rows_kept(&mut self, alloc: Global, id: u64) -> Result<Rows, Unavailable>
-        ensures transition { IsTransition S.Store NoMore self.old self.new }
+        ensures transition { IsTransition S.Store NothingNew self.old self.new }
         ensures healthy { OnOk result (IsHealthyIfClean S.Store self.new) }
         ensures same { HoldsTheSame self.old.tables self.new.tables }
         ensures value { ForAllHeld self.old.tables self.new.tables (λ k. IfOk result (λ rows. IfSome (numbered k.censuses id) (λ t. rows ≡ t.tally.rows))) }
@@ -316,7 +316,7 @@ impl<S: Alter> Archive<S> {
         alloc: Global,
         id: u64,
     ) -> Result<Option<(Rows, bool)>, Unavailable>
-        ensures transition { IsTransition S.Store NoMore self.old self.new }
+        ensures transition { IsTransition S.Store NothingNew self.old self.new }
         ensures healthy { OnOk result (IsHealthyIfClean S.Store self.new) }
         ensures same { HoldsTheSame self.old.tables self.new.tables }
         ensures value { ForAllHeld self.old.tables self.new.tables (λ k. IfOk result (λ found. found ≡ option_map (λ t. record { 0 = t.tally.rows; 1 = t.steady }) (numbered k.censuses id))) }
@@ -332,7 +332,7 @@ impl<S: Alter> Archive<S> {
 
     /// The rows of the tally of the census of the number, in byte order of their codes, or none.
     pub fn rows_of(&mut self, alloc: Global, id: u64) -> Result<Option<Rows>, Unavailable>
-        ensures transition { IsTransition S.Store NoMore self.old self.new }
+        ensures transition { IsTransition S.Store NothingNew self.old self.new }
         ensures healthy { OnOk result (IsHealthyIfClean S.Store self.new) }
         ensures same { HoldsTheSame self.old.tables self.new.tables }
         ensures value { ForAllHeld self.old.tables self.new.tables (λ k. IfOk result (λ rows. rows ≡ option_map (λ t. t.tally.rows) (numbered k.censuses id))) }
@@ -345,7 +345,7 @@ impl<S: Alter> Archive<S> {
 
     /// The flag of the census with the number, or `None`: whether the generation that it counted is steady.
     pub fn flag_of(&mut self, id: u64) -> Result<Option<bool>, Unavailable>
-        ensures transition { IsTransition S.Store NoMore self.old self.new }
+        ensures transition { IsTransition S.Store NothingNew self.old self.new }
         ensures healthy { OnOk result (IsHealthyIfClean S.Store self.new) }
         ensures same { HoldsTheSame self.old.tables self.new.tables }
         ensures value { ForAllHeld self.old.tables self.new.tables (λ k. IfOk result (λ b. b ≡ option_map (λ t. t.steady) (numbered k.censuses id))) }
@@ -361,7 +361,7 @@ impl<S: Alter> Archive<S> {
 
     /// How many clusters with the code there are in all censuses of deposits of the rule.
     pub fn counts_of(&mut self, alloc: Global, rule: &Rule, code: &[u8]) -> Result<u64, Unavailable>
-        ensures transition { IsTransition S.Store NoMore self.old self.new }
+        ensures transition { IsTransition S.Store NothingNew self.old self.new }
         ensures healthy { OnOk result (IsHealthyIfClean S.Store self.new) }
         ensures same { HoldsTheSame self.old.tables self.new.tables }
         ensures value { ForAllHeld self.old.tables self.new.tables (λ k. IfOk result (λ n. n ≡ total_of k rule.now code.now)) }

@@ -10,7 +10,7 @@ ghost use Rattle.life_core.specs.RuleText.{rule_text};
 ghost use Rattle.life_census.specs.Rows.{row_seen};
 ghost use Rattle.life_store.specs.ReadingState.{newest_rows, ShowsCensus, ShowsTotal, row_shown};
 ghost use Rattle.life_store.specs.Kept.{Kept, Tallied, numbered, total_of};
-ghost use Rattle.life_store.specs.Crash.{NoMore};
+ghost use Rattle.life_store.specs.Crash.{NothingNew};
 ghost use Rattle.life_store.specs.CensusesState.{tallied_by, Parts, HoldsParts, AddsInside, with_census, with_flag};
 ghost use Rattle.life_store.specs.Stored.{tagged};
 ghost use Rattle.life_store.specs.Statements.{Withstands, QueriesFor, AddsNext, StaysInside};
@@ -80,7 +80,7 @@ fn insert_census<S: Alter>(
 ) -> Result<(), Unavailable>
     ensures added { (p : Parts) (steady : Bool) → id ≡ length p.censuses + 1 → AddsInside S.Store tx.old.conn.now tx.new.conn.now result p (record p { censuses = p.censuses ++ record { census = census.now; tally = tally.now; steady = steady } ∷ [] }) }
     ensures stays { StaysInside S.Store tx.old.conn tx.new.conn result }
-    ensures withstands { Withstands S.Store NoMore tx.old.conn.now tx.new.conn.now }
+    ensures withstands { Withstands S.Store NothingNew tx.old.conn.now tx.new.conn.now }
     ensures few { OnOk result (id < 2 ^ 63) }
 {
     let (Ok(id), Ok(deposit), Ok(total), Ok(unresolved)) = (
@@ -115,7 +115,7 @@ fn insert_row<S: Alter>(
 ) -> Result<(), Unavailable>
     ensures added { (p : Parts) → AddsInside S.Store tx.old.conn.now tx.new.conn.now result p (record p { counts = p.counts ++ (id, row_seen row.now) ∷ [] }) }
     ensures stays { StaysInside S.Store tx.old.conn tx.new.conn result }
-    ensures withstands { Withstands S.Store NoMore tx.old.conn.now tx.new.conn.now }
+    ensures withstands { Withstands S.Store NothingNew tx.old.conn.now tx.new.conn.now }
 {
     let (Ok(id), Ok(count)) = (i64::try_from(id), i64::try_from(row.count)) else {
         return Err(Unavailable);
@@ -139,7 +139,7 @@ fn insert_rows<S: Alter>(
 ) -> Result<(), Unavailable>
     ensures added { (p : Parts) → AddsInside S.Store tx.old.conn.now tx.new.conn.now result p (record p { counts = p.counts ++ tagged id (map row_seen rows.now) }) }
     ensures stays { StaysInside S.Store tx.old.conn tx.new.conn result }
-    ensures withstands { Withstands S.Store NoMore tx.old.conn.now tx.new.conn.now }
+    ensures withstands { Withstands S.Store NothingNew tx.old.conn.now tx.new.conn.now }
 {
     for row in rows {
         insert_row(tx, id, row)?;
@@ -157,7 +157,7 @@ fn insert_with_flag<S: Alter>(
 ) -> Result<(), Unavailable>
     ensures added { (p : Parts) (t : Tallied) → t ≡ record { census = census.now; tally = tally.now; steady = steady } → id ≡ length p.censuses + 1 → id ≡ length p.flagged + 1 → AddsInside S.Store tx.old.conn.now tx.new.conn.now result p (with_flag t (with_census id t p)) }
     ensures stays { StaysInside S.Store tx.old.conn tx.new.conn result }
-    ensures withstands { Withstands S.Store NoMore tx.old.conn.now tx.new.conn.now }
+    ensures withstands { Withstands S.Store NothingNew tx.old.conn.now tx.new.conn.now }
     ensures sound { HasCleanDisk (state S.Store tx.new.conn.now) → IsTrue tx.old.conn.now.in_transaction → (p : Parts) → HoldsParts (state S.Store tx.old.conn.now).now p → id ≡ length p.censuses + 1 → OnOk result (IsDatabase (state S.Store tx.new.conn.now).now) }
     ensures few { OnOk result (id < 2 ^ 63) }
 {

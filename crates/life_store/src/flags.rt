@@ -4,7 +4,7 @@ ghost use Rattle.std.specs.Prelude.{◌≡◌, ◌+◌, ℕ, pos, length, option
 ghost use Rattle.sqlite.specs.Effect.{IsDatabase};
 ghost use Rattle.sqlite.specs.State.{HasCleanDisk};
 ghost use Rattle.sqlite.specs.Held.{state};
-ghost use Rattle.life_store.specs.Crash.{NoMore};
+ghost use Rattle.life_store.specs.Crash.{NothingNew};
 ghost use Rattle.life_store.specs.CensusesState.{Parts, HoldsParts, AddsInside, with_flag};
 ghost use Rattle.life_store.specs.Kept.{Tallied, numbered};
 ghost use Rattle.life_store.specs.ReadingState.{ShowsFlag};
@@ -34,7 +34,7 @@ pub(crate) fn insert<S: Alter>(
 ) -> Result<(), Unavailable>
     ensures added { (p : Parts) (t : Tallied) → t.steady ≡ steady → id ≡ length p.flagged + 1 → AddsInside S.Store tx.old.conn.now tx.new.conn.now result p (with_flag t p) }
     ensures stays { StaysInside S.Store tx.old.conn tx.new.conn result }
-    ensures withstands { Withstands S.Store NoMore tx.old.conn.now tx.new.conn.now }
+    ensures withstands { Withstands S.Store NothingNew tx.old.conn.now tx.new.conn.now }
     ensures sound { HasCleanDisk (state S.Store tx.new.conn.now) → IsTrue tx.old.conn.now.in_transaction → (p : Parts) → HoldsParts (state S.Store tx.old.conn.now).now p → OnOk result (IsDatabase (state S.Store tx.new.conn.now).now) }
 {
     let Ok(id) = i64::try_from(id) else {

@@ -13,7 +13,7 @@ ghost use Rattle.sqlite.specs.Files.{file_state, image_of, over_files};
 ghost use Rattle.sqlite_wal.specs.Files.{image_at};
 ghost use Rattle.sqlite_wal.specs.Reads.{AreClean};
 ghost use Rattle.sqlite_schema.specs.declared.schema.Schema.{Schema as SchemaValue};
-ghost use Rattle.life_store.specs.Crash.{NoMore, CrashLeaves};
+ghost use Rattle.life_store.specs.Crash.{NothingNew, CrashLeaves};
 ghost use Rattle.life_store.specs.Migration.{Migrated};
 ghost use Rattle.life_store.specs.MigrationState.{Carries};
 ghost use Rattle.life_store.specs.Kept.{Kept};
@@ -41,7 +41,7 @@ use std::alloc::Global;
 const SEED: u64 = 1;
 
 /// A new archive's file stores a checksum for each page. An existing file stays as it is.
-pub(crate) const WITH_SUMS: bool = true;
+pub(crate) const WITH_CHECKSUMS: bool = true;
 
 /// Whether an archive may take this many.
 fn is_capacity(capacity: u64) -> bool
@@ -100,7 +100,7 @@ fn versions<S: Alter>(conn: &mut Connection<S>) -> Result<Vec<Row>, Error>
     ensures up { HasCleanDisk (state S.Store conn.new) → OnOk result (IsTrue (state S.Store conn.new).is_open) }
     ensures clean { doubt (state S.Store conn.old).is_clean ≤ doubt (state S.Store conn.new).is_clean }
     ensures mode { conn.old.in_transaction ≡ false → conn.new.in_transaction ≡ false }
-    ensures crash { CrashLeaves S.Store NoMore conn.old.store conn.new.store }
+    ensures crash { CrashLeaves S.Store NothingNew conn.old.store conn.new.store }
 {
     query(conn, "SELECT * FROM layout ORDER BY 1 LIMIT 2", &[])
 }
@@ -152,7 +152,7 @@ fn version_of<S: Alter>(conn: &mut Connection<S>) -> Result<Version, OpenFault>
     ensures up { HasCleanDisk (state S.Store conn.new) → OnOk result (IsTrue (state S.Store conn.new).is_open) }
     ensures clean { doubt (state S.Store conn.old).is_clean ≤ doubt (state S.Store conn.new).is_clean }
     ensures mode { conn.old.in_transaction ≡ false → conn.new.in_transaction ≡ false }
-    ensures crash { CrashLeaves S.Store NoMore conn.old.store conn.new.store }
+    ensures crash { CrashLeaves S.Store NothingNew conn.old.store conn.new.store }
     ensures still { HasCleanDisk (state S.Store conn.new) → result ≡ Err OpenFault.NotOurs → IsTrue (state S.Store conn.old).is_open → IsTrue (state S.Store conn.new).is_open }
 {
     if !has_table(conn.schema().tables.as_slice(), b"layout") {
@@ -175,7 +175,7 @@ fn check_or_migrate<S: Alter>(alloc: Global, conn: &mut Connection<S>) -> Result
     ensures up { HasCleanDisk (state S.Store conn.new) → OnOk result (IsTrue (state S.Store conn.new).is_open) }
     ensures clean { doubt (state S.Store conn.old).is_clean ≤ doubt (state S.Store conn.new).is_clean }
     ensures made { CrashLeaves S.Store (IsMadeOfOld (tables_of (state S.Store conn.old))) conn.old.store conn.new.store }
-    ensures untouched { result ≡ Err OpenFault.NotOurs → CrashLeaves S.Store NoMore conn.old.store conn.new.store }
+    ensures untouched { result ≡ Err OpenFault.NotOurs → CrashLeaves S.Store NothingNew conn.old.store conn.new.store }
     ensures still { HasCleanDisk (state S.Store conn.new) → result ≡ Err OpenFault.NotOurs → IsTrue (state S.Store conn.old).is_open → IsTrue (state S.Store conn.new).is_open }
 {
     match version_of(conn) {
@@ -200,7 +200,7 @@ fn prepare<S: Alter>(alloc: Global, conn: &mut Connection<S>) -> Result<(), Open
     ensures up { HasCleanDisk (state S.Store conn.new) → OnOk result (IsTrue (state S.Store conn.new).is_open) }
     ensures clean { doubt (state S.Store conn.old).is_clean ≤ doubt (state S.Store conn.new).is_clean }
     ensures made { CrashLeaves S.Store (IsMadeOf (tables_of (state S.Store conn.old))) conn.old.store conn.new.store }
-    ensures untouched { result ≡ Err OpenFault.NotOurs → CrashLeaves S.Store NoMore conn.old.store conn.new.store }
+    ensures untouched { result ≡ Err OpenFault.NotOurs → CrashLeaves S.Store NothingNew conn.old.store conn.new.store }
     ensures still { HasCleanDisk (state S.Store conn.new) → result ≡ Err OpenFault.NotOurs → IsTrue (state S.Store conn.old).is_open → IsTrue (state S.Store conn.new).is_open }
 {
     if !conn.is_autocommit() {
@@ -301,7 +301,7 @@ fn prepared_archive<S: Alter + Drop>(
     ensures fits { IfErr result (λ e. e.0 ≢ OpenFault.BadCapacity) }
     ensures none { (state S.Store conn).now.schema ≡ no_schema → IfErr result (λ e. e.0 ≢ OpenFault.NotOurs) }
     ensures others { IfErr result (λ e. IfErr e.1 (λ _. e.0 ≢ OpenFault.NotOurs)) }
-    ensures untouched { IfErr result (λ e. IfOk e.1 (λ left. CrashLeaves S.Store NoMore conn.store left.store)) }
+    ensures untouched { IfErr result (λ e. IfOk e.1 (λ left. CrashLeaves S.Store NothingNew conn.store left.store)) }
     ensures still { IfErr result (λ e. IfOk e.1 (λ left. HasCleanDisk (state S.Store left) → IsTrue (state S.Store conn).is_open → IsTrue (state S.Store left).is_open)) }
     ensures made { IfErr result (λ e. IfErr e.1 (CrashLeaves S.Store (IsMadeOf (tables_of (state S.Store conn))) conn.store)) }
     ensures numbered { IfErr result (λ e. IfErr e.1 (λ store. IsClean (S.Store.view store) → IsTrue (S.Store.view store).is_numbered)) }
@@ -376,7 +376,7 @@ impl<D: Disk + Drop> Archive<FileStore<D>> {
         if !is_capacity(capacity) {
             return Err((OpenFault::BadCapacity, files));
         }
-        match Connection::open_files_with(alloc, files, Options::new(SEED), WITH_SUMS) {
+        match Connection::open_files_with(alloc, files, Options::new(SEED), WITH_CHECKSUMS) {
             Ok(conn) => archive_over(alloc, conn, capacity),
             Err((_, left)) => Err((OpenFault::Unavailable, left.into_files())),
         }
@@ -468,7 +468,7 @@ impl<T: Start> Archive<FileStore<FileFrom<T>>> {
             return Err((OpenFault::BadCapacity, None));
         }
         let unmade = missing_log(rt, path);
-        match Connection::open_from(rt, path, WITH_SUMS, start) {
+        match Connection::open_from(rt, path, WITH_CHECKSUMS, start) {
             Ok(conn) => match archive_over(rt.alloc(), conn, capacity) {
                 Ok(archive) => Ok(archive),
                 Err((fault, files)) => {

@@ -9,7 +9,7 @@ ghost use Rattle.life_store.specs.Tables.{Holds, IsHealthyIfClean};
 
 use crate::archive::Archive;
 use crate::log_path::{missing_log, remove_blank};
-use crate::opening::WITH_SUMS;
+use crate::opening::WITH_CHECKSUMS;
 use sqlite::{Connection, FileFrom, FileStore, Files, Start};
 use std::fs;
 
@@ -58,7 +58,7 @@ impl<T: Start> Archive<FileStore<FileFrom<T>>> {
         let made = MadeLog {
             name: missing_log(rt, path),
         };
-        match Connection::open_from(rt, path, WITH_SUMS, start) {
+        match Connection::open_from(rt, path, WITH_CHECKSUMS, start) {
             Ok(conn) => Ok((Archive { conn, capacity }, made)),
             Err((_, Some(left))) => {
                 let files = left.into_files();

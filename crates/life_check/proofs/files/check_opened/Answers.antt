@@ -1,5 +1,5 @@
 use Rattle.std.proofs.Common.{refl, arith}
-use Rattle.life_store.proofs.LeftLemmas.{left_honest, left_allowed, left_held, left_same}
+use Rattle.life_store.proofs.RecoverableLemmas.{left_honest, left_allowed, left_held, left_same}
 use Rattle.life_check.proofs.files.check_opened.Goals as goal
 
 pub returns-clause-check : goal.returns-clause-check

@@ -10,7 +10,7 @@ use Rattle.sqlite_rules.proofs.ViewLemmas.{still_quiet}
 use Rattle.sqlite_store.specs.FileStore.{state, view}
 use Rattle.sqlite.specs.Closing.{HoldsAlone}
 use Rattle.sqlite.proofs.Theorems.{copied}
-use Rattle.life_store.proofs.LeftLemmas.{let_go}
+use Rattle.life_store.proofs.RecoverableLemmas.{let_go}
 use Rattle.life_store.proofs.opening.close.Goals as goal
 
 pub returns-in-Ok-clause-usable : goal.returns-in-Ok-clause-usable

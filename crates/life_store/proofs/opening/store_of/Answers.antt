@@ -1,6 +1,6 @@
 use Rattle.std.proofs.Common.{subst}
 use Rattle.sqlite_trees.specs.View.{IsQuiet}
-use Rattle.life_store.proofs.LeftLemmas.{open_below}
+use Rattle.life_store.proofs.RecoverableLemmas.{open_below}
 use Rattle.life_store.proofs.opening.store_of.Goals as goal
 
 pub returns-clause-quiet : goal.returns-clause-quiet

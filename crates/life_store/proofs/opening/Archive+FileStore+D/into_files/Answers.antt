@@ -1,5 +1,5 @@
 use Rattle.std.proofs.Common.{refl}
-use Rattle.life_store.proofs.LeftLemmas.{left_honest, left_allowed, left_held}
+use Rattle.life_store.proofs.RecoverableLemmas.{left_honest, left_allowed, left_held}
 use Rattle.life_store.proofs.opening.Archive+FileStore+D.into_files.Goals as goal
 
 pub returns-clause-left : goal.returns-clause-left

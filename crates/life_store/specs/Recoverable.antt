@@ -6,16 +6,16 @@ use Rattle.life_store.specs.Kept.{Kept}
 use Rattle.life_store.specs.Tables.{ArchiveView, TreesHold}
 
 -- what an opening after a crash finds
-abbrev pub Left : Type 0
-Left = Trees
+abbrev pub Recoverable : Type 0
+Recoverable = Trees
 
 -- a crash at this moment may leave this
-abbrev pub MayBeLeft : {S : Type 0} → Ghosts S → ArchiveView S → Left → Type 0
-MayBeLeft g archive found = g.recovers archive.store found
+abbrev pub MayBeRecovered : {S : Type 0} → Ghosts S → ArchiveView S → Recoverable → Type 0
+MayBeRecovered g archive found = g.recovers archive.store found
 
 -- what is left represents these deposits and these censuses, and no others
-abbrev pub LeftHolds : Left → Kept → Type 0
-LeftHolds found k = TreesHold found k
+abbrev pub RecoveredHolds : Recoverable → Kept → Type 0
+RecoveredHolds found k = TreesHold found k
 
 -- the disk has returned what was written so far
 abbrev pub IsHonest : {S : Type 0} → Ghosts S → ArchiveView S → Type 0

@@ -8,8 +8,8 @@ use Rattle.sqlite_wal.specs.Recovery.{Image}
 use Rattle.sqlite_store.specs.declared.store.FileStore.{FileStore}
 use Rattle.sqlite.specs.Files.{image_of, over_files}
 use Rattle.life_store.specs.Kept.{Kept}
-use Rattle.life_store.specs.declared.fault.OpenFault.{OpenFault}
-use Rattle.life_store.specs.declared.fault.OpenFault.TheVariants.{NotOurs}
+use Rattle.life_store.specs.declared.store_fault.OpenFault.{OpenFault}
+use Rattle.life_store.specs.declared.store_fault.OpenFault.TheVariants.{NotOurs}
 use Rattle.life_store.specs.Opening.{FilesHold, LeftHold, AreLetGo, AreRefusedAs, without_log}
 use Rattle.life_store.specs.Tables.{ArchiveView, Holds}
 use Rattle.life_desk.specs.declared.request.Request.TheVariants as ask

@@ -16,8 +16,8 @@ use Rattle.life_rle.specs.declared.stream.Inlet as inlet
 use Rattle.life_rle.specs.declared.stream.Outlet as outlet
 use Rattle.life_jobs.specs.declared.stop.Stop.TheVariants.{Unavailable}
 use Rattle.life_jobs.specs.Streams.{TakesFile, PutsOnce}
-use Rattle.life_store.specs.declared.fault.OpenFault.{OpenFault}
-use Rattle.life_store.specs.declared.fault.OpenFault.TheVariants as faults
+use Rattle.life_store.specs.declared.store_fault.OpenFault.{OpenFault}
+use Rattle.life_store.specs.declared.store_fault.OpenFault.TheVariants as faults
 use Rattle.life_store.specs.Migration.{Migrated}
 use Rattle.life_store.specs.Kept.{Kept}
 use Rattle.life_store.specs.Opening.{FilesHold, FilesHoldFirst, ListNothing, AreLetGo, AreRefusedAs, HaveFailedSince}

@@ -6,7 +6,7 @@ use Rattle.sqlite_disk.specs.declared.Files.{Files}
 use Rattle.sqlite_wal.specs.Reads.{AreClean}
 use Rattle.sqlite_wal.specs.Recovery.{Image}
 use Rattle.sqlite_store.specs.declared.store.FileStore.{FileStore}
-use Rattle.life_store.specs.declared.fault.Unavailable.{Unavailable}
+use Rattle.life_store.specs.declared.store_fault.Unavailable.{Unavailable}
 use Rattle.life_store.specs.Tables.{ArchiveView}
 use Rattle.life_desk.specs.Represents.{kept_of}
 use Rattle.life_desk.proofs.Representing.{holds_of}

@@ -9,7 +9,7 @@ use Rattle.sqlite_store.specs.declared.store.FileStore.{FileStore}
 use Rattle.sqlite_store.specs.FileStore.{view}
 use Rattle.sqlite_wal.specs.Files.{outcomes}
 use Rattle.sqlite.specs.Files.{over_files, HoldsDatabase}
-use Rattle.life_store.specs.declared.fault.Unavailable.{Unavailable}
+use Rattle.life_store.specs.declared.store_fault.Unavailable.{Unavailable}
 use Rattle.life_store.specs.Kept.{Kept}
 use Rattle.life_store.specs.Recoverable.{IsHonest}
 use Rattle.life_store.specs.Opening.{FilesHold, LeftHold, ShowsFound}

@@ -3,7 +3,7 @@ use Rattle.std.specs.Prelude.{◌≡◌, ◌<◌, ⊤, pos, true, List, [], leng
 use Rattle.std.specs.List.{AllByRecursion}
 use Rattle.sqlite_value.specs.Order.{Row}
 use Rattle.sqlite_trees.specs.View.{Finds}
-use Rattle.life_store.specs.declared.fault.Unavailable.{Unavailable}
+use Rattle.life_store.specs.declared.store_fault.Unavailable.{Unavailable}
 use Rattle.life_store.specs.declared.kept.Deposit.{Deposit}
 use Rattle.life_store.specs.Stored.{IsFiled}
 use Rattle.life_check.specs.declared.judging.Verdict.{Verdict}

@@ -7,7 +7,7 @@ use Rattle.sqlite_wal.specs.Files.{outcomes}
 use Rattle.sqlite_wal.specs.Reads.{AreClean}
 use Rattle.sqlite_wal.specs.Recovery.{Image}
 use Rattle.life_rle.specs.Stream.{Appends}
-use Rattle.life_store.specs.declared.fault.Unavailable.{Unavailable as Failed}
+use Rattle.life_store.specs.declared.store_fault.Unavailable.{Unavailable as Failed}
 use Rattle.life_desk.specs.Archive.{Archive}
 use Rattle.life_desk.proofs.Representing.{each_of}
 use Rattle.life_check.specs.declared.judging.Verdict.{Verdict}

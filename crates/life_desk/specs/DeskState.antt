@@ -4,7 +4,7 @@ use Rattle.sqlite_trees.specs.declared.store.Store.{Ghosts}
 use Rattle.life_store.specs.Crash.{NothingNew}
 use Rattle.life_store.specs.Recoverable.{Recoverable}
 use Rattle.life_store.specs.Tables.{ArchiveView, IsTransition, IsHealthyIfClean}
-use Rattle.life_store.specs.declared.fault.Unavailable.{Unavailable}
+use Rattle.life_store.specs.declared.store_fault.Unavailable.{Unavailable}
 use Rattle.life_store.specs.declared.kept.Deposit.{Deposit}
 use Rattle.life_desk.specs.declared.refusal.Refusal.TheVariants as no
 use Rattle.life_desk.specs.declared.request.Reply.{Reply}

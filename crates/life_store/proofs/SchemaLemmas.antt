@@ -20,8 +20,8 @@ use Rattle.sqlite.specs.State.{State, HasCleanDisk, IsLive, Opens}
 use Rattle.sqlite_wal.specs.Recovery.{Image}
 use Rattle.std.specs.Prelude.{◌↔◌, Result, Ok, Err, IfOk, IfErr, ◌≢◌}
 use Rattle.sqlite.specs.Files.{HoldsDatabase, AreFoundIn}
-use Rattle.life_store.specs.declared.fault.OpenFault.{OpenFault}
-use Rattle.life_store.specs.declared.fault.OpenFault.TheVariants.{BadCapacity, NotOurs, Unavailable}
+use Rattle.life_store.specs.declared.store_fault.OpenFault.{OpenFault}
+use Rattle.life_store.specs.declared.store_fault.OpenFault.TheVariants.{BadCapacity, NotOurs, Unavailable}
 use Rattle.life_store.specs.CreatingState.{HasTables}
 use Rattle.life_store.specs.Kept.{Kept}
 use Rattle.life_store.specs.Layout.{first_schema, archive_schema, no_schema}

@@ -1,7 +1,7 @@
 pub mod Layout
 pub mod CreatingState
 pub mod Kept
-pub mod Fault
+pub mod StoreFault
 pub mod Stored
 pub mod Crash
 pub mod Tables
@@ -16,4 +16,4 @@ pub mod Migration
 pub mod MigrationState
 pub mod Opening
 pub mod OpeningState
-pub mod Laws
+pub mod StoreLaws

@@ -11,11 +11,11 @@ ghost use Rattle.life_store.specs.Kept.{Kept, numbered, deposit_by, file_of_depo
 ghost use Rattle.life_store.specs.Crash.{NothingNew};
 ghost use Rattle.life_store.specs.Tables.{tables_of, IsTransition, IsHealthyIfClean, HoldsTheSame, ForAllHeld, HasOrder, AddsDeposit, AddsCensus, HoldChanged, TreesHold, Holds};
 
-use crate::fault::Unavailable;
 use crate::kept::{Census, Deposit, KeptCensus, Listing};
 use crate::reading::{
     all_lines, all_rows, count_in, first_census, first_deposit, first_file, first_flag, total_in,
 };
+use crate::store_fault::Unavailable;
 use crate::{censuses, deposits, flags};
 use life_census::{Rows, Tally};
 use life_core::Rule;

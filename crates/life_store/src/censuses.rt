@@ -17,9 +17,9 @@ ghost use Rattle.life_store.specs.Statements.{Withstands, QueriesFor, AddsNext, 
 ghost use Rattle.life_store.specs.Tables.{tables_of, HasOrder, Holds, WasHealthy, HoldsTheSame, ForAllHeld};
 
 use crate::executing::{query, sql_integer, sql_text};
-use crate::fault::Unavailable;
 use crate::flags;
 use crate::kept::Census;
+use crate::store_fault::Unavailable;
 use life_census::{Row as Counted, Tally};
 use sqlite::{Alter, Connection, Error, Row, Transaction};
 

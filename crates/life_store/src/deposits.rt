@@ -11,8 +11,8 @@ ghost use Rattle.life_store.specs.Statements.{QueriesFor};
 ghost use Rattle.life_store.specs.Tables.{tables_of, ForAllHeld};
 
 use crate::executing::{query, sql_blob, sql_integer, sql_text, write};
-use crate::fault::Unavailable;
 use crate::kept::Deposit;
+use crate::store_fault::Unavailable;
 use sqlite::{Alter, Connection, Error, Row};
 use std::alloc::Global;
 

@@ -11,7 +11,7 @@ ghost use Rattle.life_store.specs.ExecutingState.{IsSeenAgain};
 ghost use Rattle.life_store.specs.Stored.{flag_number};
 ghost use Rattle.life_store.specs.Statements.{Withstands, StaysInside};
 
-use crate::fault::Unavailable;
+use crate::store_fault::Unavailable;
 use sqlite::types::ValueRef;
 use sqlite::{Alter, Connection, Error, ErrorCode, Row, Transaction};
 

@@ -12,7 +12,7 @@ ghost use Rattle.life_store.specs.Statements.{Withstands, QueriesFor, StaysInsid
 ghost use Rattle.life_store.specs.Tables.{tables_of, ForAllHeld};
 
 use crate::executing::{flag, query, sql_integer};
-use crate::fault::Unavailable;
+use crate::store_fault::Unavailable;
 use sqlite::{Alter, Connection, Error, Row, Transaction};
 
 /// The flag of the census of the number.

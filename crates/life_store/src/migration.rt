@@ -21,10 +21,10 @@ ghost use Rattle.life_store.specs.Tables.{version_2};
 
 use crate::creating::create_census_flags;
 use crate::executing::{query_about, query_inside};
-use crate::fault::Unavailable;
 use crate::flags;
 use crate::kept::Deposit;
 use crate::reading::{count_in, first_census, first_deposit};
+use crate::store_fault::Unavailable;
 use life_census::steady;
 use life_code::PERIOD_LIMIT;
 use life_core::{GENERATION_LIMIT, generation};

@@ -26,9 +26,9 @@ ghost use Rattle.life_store.specs.Tables.{tables_of, Holds, TreesHold, HoldsTheS
 use crate::archive::Archive;
 use crate::creating::create_tables;
 use crate::executing::query;
-use crate::fault::{OpenFault, Unavailable};
 use crate::log_path::{missing_log, remove_blank};
 use crate::migration::migrate;
+use crate::store_fault::{OpenFault, Unavailable};
 use sqlite::types::ValueRef;
 use sqlite::{Alter, Connection, Error, FileFrom, FileStore, Files, MemStore, Options, Row, Start};
 use sqlite_disk::Disk;

@@ -1,6 +1,6 @@
 use Rattle.std.proofs.Common.{rules, ◌≡◌, Result, Ok, subst}
 use Rattle.std.specs.Prelude.{IfOk}
-use Rattle.life_store.specs.declared.fault.Unavailable.{Unavailable}
+use Rattle.life_store.specs.declared.store_fault.Unavailable.{Unavailable}
 use Rattle.life_check.specs.declared.judging.Verdict.{Verdict}
 use Rattle.life_check.specs.declared.judging.Verdict.TheVariants.{NotSound}
 use Rattle.life_check.specs.Listed.{StopsBeforeCensuses}

@@ -1,7 +1,7 @@
 use Rattle.std.proofs.Common.{arith, refl, Ok}
 use Rattle.sqlite.specs.State.{HasCleanDisk}
 use Rattle.sqlite.specs.Held.{state}
-use Rattle.life_store.specs.declared.fault.Unavailable.{Unavailable}
+use Rattle.life_store.specs.declared.store_fault.Unavailable.{Unavailable}
 use Rattle.life_store.proofs.MigrationLemmas.{flagged_by, migrated_by}
 use Rattle.life_store.proofs.StatementLemmas.{stays_then, stays_with}
 use Rattle.life_store.proofs.migration.migrate_one.Goals as goal

@@ -1,6 +1,6 @@
 use Rattle.sqlite.specs.Held.{state}
 use Rattle.std.proofs.Common.{◌≡◌, ◌∙◌, ap, Err}
-use Rattle.life_store.specs.declared.fault.OpenFault.TheVariants.{NotOurs}
+use Rattle.life_store.specs.declared.store_fault.OpenFault.TheVariants.{NotOurs}
 use Rattle.life_store.proofs.CommitLemmas.{crash_out}
 use Rattle.life_store.proofs.KeepLemmas.{healthy_is, healthy_from, was_clean}
 use Rattle.life_store.proofs.opening.prepared_archive.Goals as goal

@@ -1,7 +1,7 @@
 -- Why an archive is not opened.
 use Rattle.std.specs.Prelude.{ℕ}
-use Rattle.life_store.specs.declared.fault.OpenFault.{OpenFault}
-use Rattle.life_store.specs.declared.fault.OpenFault.TheVariants.{BadCapacity, NotOurs, Unavailable}
+use Rattle.life_store.specs.declared.store_fault.OpenFault.{OpenFault}
+use Rattle.life_store.specs.declared.store_fault.OpenFault.TheVariants.{BadCapacity, NotOurs, Unavailable}
 
 -- the numbers of the faults
 abbrev pub fault_number : OpenFault → ℕ

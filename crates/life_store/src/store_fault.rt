@@ -50,7 +50,7 @@ pub enum OpenFault {
 }
 
 impl OpenFault {
-    ghost use Rattle.life_store.specs.Fault.{fault_number};
+    ghost use Rattle.life_store.specs.StoreFault.{fault_number};
 
     /// The fault's number, from 1 on.
     pub fn number(self) -> u8

@@ -12,7 +12,7 @@ use Rattle.life_store.specs.declared.store_fault.OpenFault.{OpenFault}
 use Rattle.life_store.specs.declared.store_fault.OpenFault.TheVariants.{NotOurs}
 use Rattle.life_store.specs.Opening.{FilesHold, LeftHold, AreLetGo, AreRefusedAs, without_log}
 use Rattle.life_store.specs.Tables.{ArchiveView, Holds}
-use Rattle.life_desk.specs.declared.request.Request.TheVariants as ask
+use Rattle.life_desk.specs.declared.request.Request.TheVariants as requests
 use Rattle.life_desk.specs.Archive.{Archive}
 use Rattle.life_desk.specs.Represents.{Represents, kept_of, MigratedIsTheSame}
 use Rattle.life_desk.specs.Run.{RequestStep, IsDurable}
@@ -66,11 +66,11 @@ module _ {D : Type 0} {g : disk.Ghosts D} (a last : ArchiveView (FileStore D g))
   module _ (member token : List ℕ) (known before after : Option (List ℕ)) (answer : Result (Unit {0}) ArchiveStop) where
     one_step : (once : AsksOnce over_files a last member token known before after answer)
         → IsTrue last.tables.is_healthy → (A : Archive) → Represents a A
-        → IsTakenBy (λ A B. RequestStep A (ask.Deposit member token once.file) once.reply B) A last
+        → IsTakenBy (λ A B. RequestStep A (requests.Deposit member token once.file) once.reply B) A last
     one_step once now A mean =
         let done = once.answered.run now A mean in (
           done.0,
-          subst (λ (B : Archive). RequestStep A (ask.Deposit member token once.file) once.reply B)
+          subst (λ (B : Archive). RequestStep A (requests.Deposit member token once.file) once.reply B)
               (sym done.1.2) done.1.1,
           done.2,
         )
@@ -83,7 +83,7 @@ module _ {D : Type 0} {g : disk.Ghosts D} (a last : ArchiveView (FileStore D g))
         → IsTrue a.tables.is_healthy) (sym unasked.1) (λ healthy. healthy))
         (λ now A mean. (A, refl, subst (λ (t : ArchiveView (FileStore D g)). Represents t A) (sym unasked.1) mean))
     deposit_leaves (inr once) =
-        closed_by (λ A B. RequestStep A (ask.Deposit member token once.file) once.reply B)
+        closed_by (λ A B. RequestStep A (requests.Deposit member token once.file) once.reply B)
         once.answered.transition.was_healthy (one_step once)
 
 -- a deposit in an archive that is open, by what it does to it and by what is left then

@@ -7,9 +7,9 @@ use Rattle.life_rle.specs.Stream.{Appends, AppendsSome}
 use Rattle.life_store.specs.Tables.{ArchiveView}
 use Rattle.life_desk.specs.declared.refusal.Refusal.{Refusal}
 use Rattle.life_desk.specs.declared.refusal.Refusal.TheVariants as refusals
-use Rattle.life_desk.specs.declared.request.Request.TheVariants as ask
+use Rattle.life_desk.specs.declared.request.Request.TheVariants as requests
 use Rattle.life_desk.specs.declared.request.Reply.{Reply}
-use Rattle.life_desk.specs.declared.request.Reply.TheVariants as says
+use Rattle.life_desk.specs.declared.request.Reply.TheVariants as replies
 use Rattle.life_desk.specs.Run.{Answered, IsCrashSafe}
 use Rattle.life_jobs.specs.declared.stop.Stop.{Stop}
 use Rattle.life_jobs.specs.declared.stop.Stop.TheVariants.{BadPattern, Unreadable, Unavailable, Unwritable}
@@ -35,9 +35,9 @@ desk_stop refusal = Desk refusal
 -- what is put and answered for a reply: the line of its number, of which a put that fails leaves a beginning, or
 -- nothing and the refusal
 abbrev pub PutsReply : Reply → Option (List ℕ) → Option (List ℕ) → Result (Unit {0}) ArchiveStop → Type 0
-PutsReply (says.Deposited id) old new (Ok done) = Appends old new (deposit_line id)
-PutsReply (says.Deposited id) old new (Err stop) = (stop ≡ Job Unwritable) × AppendsSome old new (deposit_line id)
-PutsReply (says.Refused refusal) old new answer = answer ≡ Err (desk_stop refusal)
+PutsReply (replies.Deposited id) old new (Ok done) = Appends old new (deposit_line id)
+PutsReply (replies.Deposited id) old new (Err stop) = (stop ≡ Job Unwritable) × AppendsSome old new (deposit_line id)
+PutsReply (replies.Refused refusal) old new answer = answer ≡ Err (desk_stop refusal)
 -- to a deposit no other reply comes
 PutsReply reply old new answer = answer ≡ Err (Job Unavailable)
 
@@ -54,7 +54,7 @@ pub record AsksOnce {S : Type 0} (g : Ghosts S) (old new : ArchiveView S) (membe
   pub file : List ℕ
   pub reply : Reply
   pub taken : IsFileTaken known file
-  pub answered : Answered g old new (ask.Deposit member token file ∷ []) (reply ∷ [])
+  pub answered : Answered g old new (requests.Deposit member token file ∷ []) (reply ∷ [])
   pub puts : PutsReply reply before after answer
 
 -- the stop comes of the input or of memory, before the archive is asked
@@ -79,4 +79,4 @@ abbrev pub IsDepositSafe : {S : Type 0} → Ghosts S → ArchiveView S → Archi
 IsDepositSafe g old new member token known before after answer =
     (IsUnasked answer × (new ≡ old))
     ⊎ ((once : AsksOnce g old new member token known before after answer)
-    × IsCrashSafe g old new (ask.Deposit member token once.file ∷ []) (once.reply ∷ []))
+    × IsCrashSafe g old new (requests.Deposit member token once.file ∷ []) (once.reply ∷ []))

@@ -25,7 +25,7 @@ use Rattle.life_store.specs.Opening.{nothing_kept, without_log}
 use Rattle.life_store.specs.Recoverable.{IsHonest}
 use Rattle.life_store.specs.Tables.{ArchiveView, Holds, IsHealthyIfClean}
 use Rattle.life_desk.specs.declared.request.Request.{Request}
-use Rattle.life_desk.specs.declared.request.Request.TheVariants as ask
+use Rattle.life_desk.specs.declared.request.Request.TheVariants as requests
 use Rattle.life_desk.specs.declared.request.Reply.{Reply}
 use Rattle.life_desk.specs.Replies.{after}
 use Rattle.life_desk.specs.Archive.{Archive}
@@ -99,7 +99,7 @@ abbrev pub IsSafeIfAsked : {S : Type 0} {g : Ghosts S} {old new : ArchiveView S}
     → Deposits g old new member token known before after answer → Type 0
 IsSafeIfAsked {g = g} {new = new} (inl unasked) = IsDurable g new
 IsSafeIfAsked {g = g} {old = old} {new = new} {member = member} {token = token} (inr once) =
-    IsCrashSafe g old new (ask.Deposit member token once.file ∷ []) (once.reply ∷ [])
+    IsCrashSafe g old new (requests.Deposit member token once.file ∷ []) (once.reply ∷ [])
 
 -- What becomes of an archive, by what was asked: it stays as it is; or it takes the one step of a run, with the reply
 -- that was put: the deposit is added, was there already, or is refused.
@@ -108,7 +108,7 @@ abbrev pub BecomesByDeposit : {S : Type 0} {g : Ghosts S} {old new : ArchiveView
     → Deposits g old new member token known before after answer → Archive → Archive → Type 0
 BecomesByDeposit (inl unasked) A B = B ≡ A
 BecomesByDeposit {member = member} {token = token} (inr once) A B =
-    RequestStep A (ask.Deposit member token once.file) once.reply B
+    RequestStep A (requests.Deposit member token once.file) once.reply B
 
 -- A deposit over the files of a path: they were opened as an archive, which was asked once to keep what came in, or not
 -- at all, and were closed. What was asked of the archive, what a crash during it leaves, and what it leaves at its end,
@@ -249,7 +249,7 @@ abbrev pub IsLeftIfAsked : {S : Type 0} {g : Ghosts S} {old new : ArchiveView S}
     → Deposits g old new member token known before after answer → Archive → (Archive → Type 0) → Type 0
 IsLeftIfAsked (inl unasked) A Remains = Remains A
 IsLeftIfAsked {member = member} {token = token} (inr once) A Remains =
-    IsLeftOfRun A (ask.Deposit member token once.file ∷ []) (once.reply ∷ []) Remains
+    IsLeftOfRun A (requests.Deposit member token once.file ∷ []) (once.reply ∷ []) Remains
 
 -- what is left of a job that a crash cut off
 abbrev pub IsLeftBy : {D : Type 0} {g : disk.Ghosts D} {image : Image} {capacity : ℕ}

@@ -5,7 +5,7 @@ ghost use Rattle.life_rle.specs.Stream.{FailsLast, Appends, AppendsSome};
 ghost use Rattle.sqlite_trees.specs.Tree.{Trees};
 ghost use Rattle.life_store.specs.Kept.{Kept};
 ghost use Rattle.life_store.specs.Tables.{Holds, TreesHold};
-ghost use Rattle.life_desk.specs.declared.request.Request.TheVariants as ask;
+ghost use Rattle.life_desk.specs.declared.request.Request.TheVariants as requests;
 ghost use Rattle.life_desk.specs.Run.{Answered};
 ghost use Rattle.life_jobs.specs.Streams.{TakesFile, PutsOnce};
 ghost use Rattle.life_jobs.specs.declared.stop.Stop.TheVariants.{Unreadable};
@@ -54,7 +54,7 @@ fn deposit_request(
     token: &str,
     file: Vec<u8>,
 ) -> Result<Request, AllocError>
-    ensures { IfOk result (λ request. request ≡ ask.Deposit member.now token.now file.items) }
+    ensures { IfOk result (λ request. request ≡ requests.Deposit member.now token.now file.items) }
 {
     Ok(Request::Deposit {
         member: Text::from_slice(alloc, member.as_bytes())?,

@@ -5,7 +5,7 @@ use Rattle.std.specs.Prelude.{is_ok, if◌then◌else◌}
 use Rattle.life_desk.specs.declared.refusal.Refusal.{Refusal}
 use Rattle.life_desk.specs.declared.refusal.Refusal.TheVariants.{BadMember, BadToken}
 use Rattle.life_desk.specs.declared.request.Request.{Request}
-use Rattle.life_desk.specs.declared.request.Request.TheVariants as ask
+use Rattle.life_desk.specs.declared.request.Request.TheVariants as requests
 use Rattle.life_desk.specs.Validation.{is_member, is_token, validated, validated_by, IsChecked}
 use Rattle.life_check.specs.ReadState.{AreNames}
 
@@ -24,9 +24,9 @@ by_tests false y word (Err e) it = (λ ok. absurd (no_truth ok), λ names. absur
 
 -- the check of a deposit's fields passes exactly valid ones
 pub names_checked : (m t member token : List ℕ) (r : Result (Unit {0}) Refusal) (b : Bool)
-    → m ≡ member → t ≡ token → ((file : List ℕ) → IsChecked r (validated (ask.Deposit m t file)))
+    → m ≡ member → t ≡ token → ((file : List ℕ) → IsChecked r (validated (requests.Deposit m t file)))
     → b ≡ is_ok r → IsTrue b ↔ AreNames member token
 names_checked m t member token r b first second checked is =
     subst₂ (λ (x y : List ℕ). IsTrue b ↔ AreNames x y) first second
     (subst (λ (x : Bool). IsTrue x ↔ AreNames m t) (sym is) (by_tests (is_member m) (is_token t)
-    (ask.Deposit m t []) r (checked [])))
+    (requests.Deposit m t []) r (checked [])))

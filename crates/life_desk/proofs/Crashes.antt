@@ -5,7 +5,7 @@ use Rattle.life_store.specs.declared.kept.Deposit.{Deposit}
 use Rattle.life_store.specs.declared.kept.Census.{Census}
 use Rattle.life_store.specs.Kept.{numbered, census_by}
 use Rattle.life_store.specs.Tables.{ArchiveView, WasHealthy}
-use Rattle.life_desk.specs.declared.refusal.Refusal.TheVariants as no
+use Rattle.life_desk.specs.declared.refusal.Refusal.TheVariants as refusals
 use Rattle.life_desk.specs.Archive.{Archive}
 use Rattle.life_desk.specs.DeskState.{RepresentChanged, RepresentChangedIf}
 use Rattle.life_desk.specs.LookupsState.{ForAllRepresented, RepresentsTheSame}
@@ -33,7 +33,7 @@ module _ {S : Type 0} (old mid : ArchiveView S) (was : WasHealthy old.tables mid
           let yes : has_room A (k.list A) ≡ true = sym (tells A h.0 m) ∙ is in
           subst
           (λ b. RecoveredRepresents db (k.with_list A
-          (stored_after (k.list A) (if b then Adds x else Refuses no.Full))))
+          (stored_after (k.list A) (if b then Adds x else Refuses refusals.Full))))
           (sym yes) (h.1 A (same A h.0 m) there),
     )
 

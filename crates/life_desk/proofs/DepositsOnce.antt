@@ -13,10 +13,10 @@ use Rattle.life_rle.proofs.ReadAgain.{file_read_again}
 use Rattle.life_store.specs.declared.kept.Deposit.{Deposit}
 use Rattle.life_store.specs.Kept.{is_of}
 use Rattle.life_desk.specs.declared.refusal.Refusal.{Refusal}
-use Rattle.life_desk.specs.declared.refusal.Refusal.TheVariants as no
+use Rattle.life_desk.specs.declared.refusal.Refusal.TheVariants as refusals
 use Rattle.life_desk.specs.declared.request.Request.{Request}
-use Rattle.life_desk.specs.declared.request.Request.TheVariants as ask
-use Rattle.life_desk.specs.declared.request.Reply.TheVariants as says
+use Rattle.life_desk.specs.declared.request.Request.TheVariants as requests
+use Rattle.life_desk.specs.declared.request.Reply.TheVariants as replies
 use Rattle.life_desk.specs.Archive.{Archive}
 use Rattle.life_desk.specs.Validation.{is_member, is_token, validated, validated_by}
 use Rattle.life_desk.specs.Replies.{is_same_deposit, has_room, deposit_of_file, deposit_reply, with_deposit, IsReply}
@@ -39,10 +39,10 @@ both_are xs ys us vs is =
     let both = and_parts (bytes_eq xs us) (bytes_eq ys vs) is in
     ((bytes_eq-Decides xs us).0 both.0, (bytes_eq-Decides ys vs).0 both.1)
 
-pub one_number : (m n : ℕ) → says.Deposited m ≡ says.Deposited n → m ≡ n
+pub one_number : (m n : ℕ) → replies.Deposited m ≡ replies.Deposited n → m ≡ n
 one_number m n e = cc
 
-pub no_refusal : (n : ℕ) (refusal : Refusal) → says.Deposited n ≡ says.Refused refusal → ⊥
+pub no_refusal : (n : ℕ) (refusal : Refusal) → replies.Deposited n ≡ replies.Refused refusal → ⊥
 no_refusal n refusal e = cc
 
 abbrev pub deposits : Kind Deposit
@@ -51,7 +51,7 @@ deposits = record {
   with_list = λ A ds. record A { deposits = ds };
   is_under = λ d. is_of d.member d.token;
   is_same = is_same_deposit;
-  number = says.Deposited;
+  number = replies.Deposited;
   under_itself = λ d. both_refl d.member d.token;
   same_itself = λ d. bytes_eq-refl (text d.content);
   one_number = one_number;
@@ -88,7 +88,7 @@ pub record IsDeposited (A : Archive) (member token file : List ℕ) (n : ℕ) : 
 
 file_case : (A : Archive) (member token file : List ℕ) (n : ℕ) (f : Result Contents RleFault)
     → is_member member ≡ true → is_token token ≡ true → files.file file ≡ f
-    → says.Deposited n ≡ deposit_reply A (deposit_of_file A member token f)
+    → replies.Deposited n ≡ deposit_reply A (deposit_of_file A member token f)
     → IsDeposited (with_deposit A (deposit_of_file A member token f)) member token file n
 file_case A member token file n (Ok it) good_member good_token is h = record {
   content = it;
@@ -104,11 +104,11 @@ file_case A member token file n (Err fault) good_member good_token is h = absurd
 -- what is validated of a deposit's own words
 abbrev Words : List ℕ → List ℕ → List ℕ → Bool → Bool → Result Request Refusal
 Words member token file a b =
-    validated_by (if a then (if b then None else Some no.BadToken) else Some no.BadMember)
-    (ask.Deposit member token file)
+    validated_by (if a then (if b then None else Some refusals.BadToken) else Some refusals.BadMember)
+    (requests.Deposit member token file)
 
 words_case : (A : Archive) (member token file : List ℕ) (n : ℕ) (a b : Bool) → is_member member ≡ a → is_token token ≡ b
-    → IsReplyBy A (Words member token file a b) (says.Deposited n)
+    → IsReplyBy A (Words member token file a b) (replies.Deposited n)
     → IsDeposited (after_by A (Words member token file a b)) member token file n
 words_case A member token file n true true x y h = file_case A member token file n (files.file file) x y refl h
 words_case A member token file n true false x y h = absurd cc
@@ -116,8 +116,8 @@ words_case A member token file n false true x y h = absurd cc
 words_case A member token file n false false x y h = absurd cc
 
 pub deposited : (A : Archive) (member token file : List ℕ) (n : ℕ)
-    → IsReply A (ask.Deposit member token file) (says.Deposited n)
-    → IsDeposited (after A (ask.Deposit member token file)) member token file n
+    → IsReply A (requests.Deposit member token file) (replies.Deposited n)
+    → IsDeposited (after A (requests.Deposit member token file)) member token file n
 deposited A member token file n h = words_case A member token file n (is_member member) (is_token token) refl refl h
 
 -- ---- later
@@ -136,11 +136,11 @@ deposited_later A B member token file n later d = record {
 
 pub deposits_stay_lem : DepositsStay
 deposits_stay_lem A B member token file n again h later =
-    let M = after A (ask.Deposit member token file) in
+    let M = after A (requests.Deposit member token file) in
     let d = deposited A member token file n h in
     let found = found_numbered (is_of member token) M.deposits (n, d.found.0) d.found.1 in
     let one = numbered_again M.deposits n d.found.0
-    (after_again A (validated (ask.Deposit member token file)) again) found.1 in
+    (after_again A (validated (requests.Deposit member token file)) again) found.1 in
     let same = one_deposit (record {
       member = member;
       token = token;
@@ -151,10 +151,10 @@ deposits_stay_lem A B member token file n again h later =
 -- it is stored: the number is answered, and nothing changes
 by_file : (B : Archive) (member token : List ℕ) (n : ℕ) (it : Contents) (f : Result Contents RleFault) → f ≡ Ok it
     → IsStored deposits B.deposits (record { member = member; token = token; content = it }) n
-    → (says.Deposited n ≡ deposit_reply B (deposit_of_file B member token f))
+    → (replies.Deposited n ≡ deposit_reply B (deposit_of_file B member token f))
     × (with_deposit B (deposit_of_file B member token f) ≡ B)
 by_file B member token n it f is found =
-    subst (λ x. (says.Deposited n ≡ deposit_reply B (deposit_of_file B member token x))
+    subst (λ x. (replies.Deposited n ≡ deposit_reply B (deposit_of_file B member token x))
     × (with_deposit B (deposit_of_file B member token x) ≡ B)) (sym is)
     (let repeats = stored_repeats deposits (has_room B B.deposits) B.deposits (record {
       member = member;
@@ -163,9 +163,9 @@ by_file B member token n it f is found =
     }) n found in (repeats.0, ap (λ ds. record B { deposits = ds }) repeats.1))
 
 by_words : (B : Archive) (member token file : List ℕ) (n : ℕ) (a b : Bool) → a ≡ true → b ≡ true
-    → (says.Deposited n ≡ deposit_reply B (deposit_of_file B member token (files.file file)))
+    → (replies.Deposited n ≡ deposit_reply B (deposit_of_file B member token (files.file file)))
     × (with_deposit B (deposit_of_file B member token (files.file file)) ≡ B)
-    → IsReplyBy B (Words member token file a b) (says.Deposited n) × (after_by B (Words member token file a b) ≡ B)
+    → IsReplyBy B (Words member token file a b) (replies.Deposited n) × (after_by B (Words member token file a b) ≡ B)
 by_words B member token file n true true x y h = h
 by_words B member token file n true false x y h = absurd cc
 by_words B member token file n false true x y h = absurd cc
@@ -173,7 +173,7 @@ by_words B member token file n false false x y h = absurd cc
 
 pub deposits_act_once_lem : DepositsActOnce
 deposits_act_once_lem A B member token file again n h later same =
-    let d = deposited_later (after A (ask.Deposit member token file)) B member token file n later
+    let d = deposited_later (after A (requests.Deposit member token file)) B member token file n later
     (deposited A member token file n h) in
     by_words B member token again n (is_member member) (is_token token) d.member_good d.token_good
     (by_file B member token n d.content (files.file again) (same ∙ d.read) d.found)

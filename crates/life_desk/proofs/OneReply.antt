@@ -8,11 +8,11 @@ use Rattle.life_core.specs.Rule.{RuleSets}
 use Rattle.life_core.specs.declared.rule_text.RuleFault.{RuleFault}
 use Rattle.life_core.specs.RuleText.{read_rule}
 use Rattle.life_desk.specs.declared.refusal.Refusal.{Refusal}
-use Rattle.life_desk.specs.declared.refusal.Refusal.TheVariants as no
+use Rattle.life_desk.specs.declared.refusal.Refusal.TheVariants as refusals
 use Rattle.life_desk.specs.declared.request.Request.{Request}
-use Rattle.life_desk.specs.declared.request.Request.TheVariants as ask
+use Rattle.life_desk.specs.declared.request.Request.TheVariants as requests
 use Rattle.life_desk.specs.declared.request.Reply.{Reply}
-use Rattle.life_desk.specs.declared.request.Reply.TheVariants as says
+use Rattle.life_desk.specs.declared.request.Reply.TheVariants as replies
 use Rattle.life_desk.specs.Archive.{Archive}
 use Rattle.life_desk.specs.Validation.{validated, validated_by, fault_in, first_fault, rule_fault, is_limit}
 use Rattle.life_desk.specs.Replies.{IsReplyTo, IsReplyBy, IsTotalUnder}
@@ -29,7 +29,7 @@ one_under A (Ok rule) code limit r s is other = total_one A rule code limit r s 
 one_under A (Err fault) code limit r s is other = other ∙ sym is
 
 one_to : (A : Archive) (q : Request) (r s : Reply) → IsReplyTo A q r → IsReplyTo A q s → s ≡ r
-one_to A (ask.Total rule code limit) r s is other = one_under A (read_rule rule) code limit r s is other
+one_to A (requests.Total rule code limit) r s is other = one_under A (read_rule rule) code limit r s is other
 one_to A _ r s is other = other ∙ sym is
 
 one_by : (A : Archive) (w : Result Request Refusal) (r s : Reply) → IsReplyBy A w r → IsReplyBy A w s → s ≡ r
@@ -41,17 +41,17 @@ one_by A (Err refusal) r s is other = other ∙ sym is
 there_under : (A : Archive) (read : Result RuleSets RuleFault) (code : List ℕ) (limit : ℕ) → limit ≤ 999999
     → (r : Reply) × IsTotalUnder A read code limit r
 there_under A (Ok rule) code limit small = total_there A rule code limit small
-there_under A (Err fault) code limit small = (says.Refused no.BadRule, refl)
+there_under A (Err fault) code limit small = (replies.Refused refusals.BadRule, refl)
 
 -- a limit that is validated good is small
 small_limit : (limit : ℕ) (later : Option Refusal) (b : Bool) → is_limit limit ≡ b
-    → first_fault (if b then None else Some no.OutOfLimit) later ≡ None → limit ≤ PERIOD_LIMIT
+    → first_fault (if b then None else Some refusals.OutOfLimit) later ≡ None → limit ≤ PERIOD_LIMIT
 small_limit limit later true is none =
     leb-true limit PERIOD_LIMIT (and_parts (nat_le 1 limit) (nat_le limit PERIOD_LIMIT) is).1
 small_limit limit later false is none = absurd cc
 
 there_to : (A : Archive) (q : Request) → fault_in q ≡ None → (r : Reply) × IsReplyTo A q r
-there_to A (ask.Total rule code limit) none =
+there_to A (requests.Total rule code limit) none =
     let small = small_limit limit (rule_fault (read_rule rule)) (is_limit limit) refl none in
     there_under A (read_rule rule) code limit (omega (arith, small))
 there_to A _ none = (_, refl)
@@ -59,7 +59,7 @@ there_to A _ none = (_, refl)
 there_by : (A : Archive) (q : Request) (fault : Option Refusal) → fault_in q ≡ fault
     → (r : Reply) × IsReplyBy A (validated_by fault q) r
 there_by A q None is = there_to A q is
-there_by A q (Some refusal) is = (says.Refused refusal, refl)
+there_by A q (Some refusal) is = (replies.Refused refusal, refl)
 
 pub one_reply : OneReply
 one_reply A q =

@@ -21,11 +21,11 @@ use Rattle.life_store.specs.declared.kept.Deposit.{Deposit}
 use Rattle.life_store.specs.declared.kept.Census.{Census}
 use Rattle.life_store.specs.Kept.{numbered}
 use Rattle.life_desk.specs.declared.refusal.Refusal.{Refusal}
-use Rattle.life_desk.specs.declared.refusal.Refusal.TheVariants as no
+use Rattle.life_desk.specs.declared.refusal.Refusal.TheVariants as refusals
 use Rattle.life_desk.specs.declared.request.Request.{Request}
-use Rattle.life_desk.specs.declared.request.Request.TheVariants as ask
+use Rattle.life_desk.specs.declared.request.Request.TheVariants as requests
 use Rattle.life_desk.specs.declared.request.Reply.{Reply}
-use Rattle.life_desk.specs.declared.request.Reply.TheVariants as says
+use Rattle.life_desk.specs.declared.request.Reply.TheVariants as replies
 use Rattle.life_desk.specs.declared.request.Shown.{Shown}
 use Rattle.life_desk.specs.Archive.{Archive, clusters_with, tally_at, tally_for, tally_of_cells, steady_at, steady_for}
 use Rattle.life_desk.specs.Validation.{is_generation, is_limit, fault_in, validated_by}
@@ -47,7 +47,7 @@ abbrev At : Archive → Request → Reply → Archive → Type 0
 At A q r B = (M : Archive) × IsRepresentable M × IsReply M q r × IsLater M B × IsLater (after M q) B
 
 at : (A B : Archive) (qs : List Request) (rs : List Reply) (q : Request) (r : Reply) → IsRepresentable A
-    → RequestRun A qs rs B → IsAnswered qs rs q r → r ≢ says.Refused no.Unavailable → At A q r B
+    → RequestRun A qs rs B → IsAnswered qs rs q r → r ≢ replies.Refused refusals.Unavailable → At A q r B
 at A B qs rs q r can run answered other =
     let m = moment A B qs rs q r can run answered in
     let says_so = step_answers m.before q r m.behind m.step other in (
@@ -61,12 +61,12 @@ at A B qs rs q r can run answered other =
 -- ---- generations
 
 generation_case : (M : Archive) (id n : ℕ) (bytes : List ℕ) (b : Bool)
-    → IsReplyBy M (validated_by (if b then None else Some no.OutOfLimit) (ask.At id n)) (says.File bytes)
-    → says.File bytes ≡ at_reply n (numbered M.deposits id)
+    → IsReplyBy M (validated_by (if b then None else Some refusals.OutOfLimit) (requests.At id n)) (replies.File bytes)
+    → replies.File bytes ≡ at_reply n (numbered M.deposits id)
 generation_case M id n bytes true is = is
 generation_case M id n bytes false is = absurd cc
 
-file_case : (n : ℕ) (bytes : List ℕ) (o : Option Deposit) → says.File bytes ≡ at_reply n o
+file_case : (n : ℕ) (bytes : List ℕ) (o : Option Deposit) → replies.File bytes ≡ at_reply n o
     → (d : Deposit) × (o ≡ Some d)
     × (bytes ≡ writer.text (plain d.content.rule (generation_of d.content.rule d.content.cells n)))
 file_case n bytes None is = absurd cc
@@ -75,25 +75,26 @@ file_case n bytes (Some d) is = (d, refl, cc)
 -- ---- codes
 
 limit_case : (M : Archive) (id limit : ℕ) (r : Reply) (k : Kind) (code : Option (List ℕ)) (b : Bool)
-    → r ≡ says.Kinded k code
-    → IsReplyBy M (validated_by (if b then None else Some no.OutOfLimit) (ask.KindOf id limit)) r
+    → r ≡ replies.Kinded k code
+    → IsReplyBy M (validated_by (if b then None else Some refusals.OutOfLimit) (requests.KindOf id limit)) r
     → r ≡ kind_reply limit (numbered M.deposits id)
 limit_case M id limit r k code true kind is = is
 limit_case M id limit r k code false kind is = absurd cc
 
-code_case : (limit : ℕ) (k : Kind) (code : List ℕ) (o : Option Deposit) → says.Kinded k (Some code) ≡ kind_reply limit o
+code_case : (limit : ℕ) (k : Kind) (code : List ℕ) (o : Option Deposit)
+    → replies.Kinded k (Some code) ≡ kind_reply limit o
     → (d : Deposit) × (o ≡ Some d) × (code_of d.content.rule d.content.cells limit ≡ Some code)
 code_case limit k code None is = absurd cc
 code_case limit k code (Some d) is = (d, refl, cc)
 
 coded : (A B : Archive) (qs : List Request) (rs : List Reply) → IsRepresentable A → RequestRun A qs rs B
     → (id limit : ℕ) (k : Kind) (code : List ℕ) (d : Deposit)
-    → IsAnswered qs rs (ask.KindOf id limit) (says.Kinded k (Some code)) → numbered B.deposits id ≡ Some d
+    → IsAnswered qs rs (requests.KindOf id limit) (replies.Kinded k (Some code)) → numbered B.deposits id ≡ Some d
     → code_of d.content.rule d.content.cells limit ≡ Some code
 coded A B qs rs can run id limit k code d answered is =
-    let m = at A B qs rs (ask.KindOf id limit) (says.Kinded k (Some code)) can run answered (λ e. cc) in
+    let m = at A B qs rs (requests.KindOf id limit) (replies.Kinded k (Some code)) can run answered (λ e. cc) in
     let found = code_case limit k code (numbered m.0.deposits id)
-    (limit_case m.0 id limit (says.Kinded k (Some code)) k (Some code) (is_limit limit) refl m.2) in
+    (limit_case m.0 id limit (replies.Kinded k (Some code)) k (Some code) (is_limit limit) refl m.2) in
     let stays : numbered B.deposits id ≡ Some found.0 = deposit_stays m.0 B m.3 id found.0 found.1 in
     let same : found.0 ≡ d = cc in
     subst (λ (x : Deposit). code_of x.content.rule x.content.cells limit ≡ Some code) same found.2
@@ -129,7 +130,8 @@ shown_of ds id c = record {
   steady = steady_at ds c;
 }
 
-shown_case : (ds : List Deposit) (id : ℕ) (shown : Shown) (o : Option Census) → says.Shown shown ≡ shown_reply ds id o
+shown_case : (ds : List Deposit) (id : ℕ) (shown : Shown) (o : Option Census)
+    → replies.Shown shown ≡ shown_reply ds id o
     → (c : Census) × (o ≡ Some c) × (shown ≡ shown_of ds id c)
 shown_case ds id shown None is = absurd cc
 shown_case ds id shown (Some c) is = (c, refl, cc)
@@ -147,7 +149,7 @@ FlagTells ds d shown =
     ↔ IsSteady d.content.rule (generation_of d.content.rule d.content.cells shown.generation) shown.limit
 
 flag_case : SteadyIsDecided → (ds : List Deposit) (d : Deposit) (id : ℕ) (shown : Shown) (o : Option Census)
-    → says.Shown shown ≡ shown_reply ds id o → FlagTells ds d shown
+    → replies.Shown shown ≡ shown_reply ds id o → FlagTells ds d shown
 flag_case decided ds d id shown None is = absurd cc
 flag_case decided ds d id shown (Some c) is =
     let same : shown ≡ record {
@@ -170,7 +172,7 @@ flag_tells_steady decided A id shown d is there =
 -- a census of a deposit is shown as it is
 shows_census : RowsAreCounts → TalliesAddUp → SteadyIsDecided → (M B : Archive) (id : ℕ) (shown : Shown)
     → EachHasDeposit M.deposits M.censuses → IsLater M B
-    → says.Shown shown ≡ shown_reply M.deposits id (numbered M.censuses id) → ShowsCensus B id shown
+    → replies.Shown shown ≡ shown_reply M.deposits id (numbered M.censuses id) → ShowsCensus B id shown
 shows_census rows add decided M B id shown each later is =
     let found = shown_case M.deposits id shown (numbered M.censuses id) is in
     let c : Census = found.0 in
@@ -203,26 +205,26 @@ shows_census rows add decided M B id shown each later is =
 
 -- ---- shows, kinds and totals
 
-show_case : (bytes : List ℕ) (o : Option Deposit) → says.File bytes ≡ file_reply o
+show_case : (bytes : List ℕ) (o : Option Deposit) → replies.File bytes ≡ file_reply o
     → (d : Deposit) × (o ≡ Some d) × (bytes ≡ writer.text d.content)
 show_case bytes None is = absurd cc
 show_case bytes (Some d) is = (d, refl, cc)
 
 kind_case : (limit : ℕ) (k : Kind) (code : Option (List ℕ)) (o : Option Deposit)
-    → says.Kinded k code ≡ kind_reply limit o
+    → replies.Kinded k code ≡ kind_reply limit o
     → (d : Deposit) × (o ≡ Some d) × (k ≡ kind_of d.content.rule d.content.cells limit)
     × (code ≡ code_of d.content.rule d.content.cells limit)
 kind_case limit k code None is = absurd cc
 kind_case limit k code (Some d) is = (d, refl, cc, cc)
 
 rule_case : (M : Archive) (code : List ℕ) (limit n : ℕ) (read : Result RuleSets RuleFault)
-    → IsTotalUnder M read code limit (says.Total n)
+    → IsTotalUnder M read code limit (replies.Total n)
     → (rule : RuleSets) × (read ≡ Ok rule) × (n ≡ clusters_with M rule code)
 rule_case M code limit n (Ok rule) is = (rule, refl, is.2)
 rule_case M code limit n (Err fault) is = absurd cc
 
 total_case : (M : Archive) (text code : List ℕ) (limit n : ℕ) (fault : Option Refusal)
-    → IsReplyBy M (validated_by fault (ask.Total text code limit)) (says.Total n)
+    → IsReplyBy M (validated_by fault (requests.Total text code limit)) (replies.Total n)
     → (rule : RuleSets) × (read_rule text ≡ Ok rule) × (n ≡ clusters_with M rule code)
 total_case M text code limit n None is = rule_case M code limit n (read_rule text) is
 total_case M text code limit n (Some refusal) is = absurd cc
@@ -233,38 +235,38 @@ pub headline_holds : RowsAreCounts → TalliesAddUp → SteadyIsDecided → Code
 headline_holds rows add decided complete A B qs rs can run = record {
   later = run_later A B qs rs run;
   deposited = λ member token file n answered.
-      let m = at A B qs rs (ask.Deposit member token file) (says.Deposited n) can run answered (λ e. cc) in
+      let m = at A B qs rs (requests.Deposit member token file) (replies.Deposited n) can run answered (λ e. cc) in
       deposits_stay_lem m.0 B member token file n m.1.again m.2 m.4;
   shows = λ id bytes answered.
-      let m = at A B qs rs (ask.Show id) (says.File bytes) can run answered (λ e. cc) in
+      let m = at A B qs rs (requests.Show id) (replies.File bytes) can run answered (λ e. cc) in
       let found = show_case bytes (numbered m.0.deposits id) m.2 in
       (found.0, deposit_stays m.0 B m.3 id found.0 found.1, found.2);
   kinds = λ id limit k code answered.
-      let m = at A B qs rs (ask.KindOf id limit) (says.Kinded k code) can run answered (λ e. cc) in
+      let m = at A B qs rs (requests.KindOf id limit) (replies.Kinded k code) can run answered (λ e. cc) in
       let found = kind_case limit k code (numbered m.0.deposits id)
-      (limit_case m.0 id limit (says.Kinded k code) k code (is_limit limit) refl m.2) in
+      (limit_case m.0 id limit (replies.Kinded k code) k code (is_limit limit) refl m.2) in
       (found.0, deposit_stays m.0 B m.3 id found.0 found.1, found.2, found.3);
   totals = λ text code limit n answered.
-      let m = moment A B qs rs (ask.Total text code limit) (says.Total n) can run answered in
-      let is = (step_answers m.before (ask.Total text code limit) (says.Total n) m.behind m.step (λ e. cc)).0 in
-      let found = total_case m.before text code limit n (fault_in (ask.Total text code limit)) is in (
+      let m = moment A B qs rs (requests.Total text code limit) (replies.Total n) can run answered in
+      let is = (step_answers m.before (requests.Total text code limit) (replies.Total n) m.behind m.step (λ e. cc)).0 in
+      let found = total_case m.before text code limit n (fault_in (requests.Total text code limit)) is in (
         found.0,
         m.before,
         found.1,
         m.earlier,
         later_later m.before m.behind B
-            (step_later m.before (ask.Total text code limit) (says.Total n) m.behind m.step) m.later,
+            (step_later m.before (requests.Total text code limit) (replies.Total n) m.behind m.step) m.later,
         found.2,
       );
   generations = λ id n bytes answered.
-      let m = at A B qs rs (ask.At id n) (says.File bytes) can run answered (λ e. cc) in
+      let m = at A B qs rs (requests.At id n) (replies.File bytes) can run answered (λ e. cc) in
       let found = file_case n bytes (numbered m.0.deposits id) (generation_case m.0 id n bytes (is_generation n) m.2) in
       (found.0, deposit_stays m.0 B m.3 id found.0 found.1, found.2);
   codes = λ i j limit other k l s t d e first second is also rule.
       one_object complete d e limit other s t rule (coded A B qs rs can run i limit k s d first is)
       (coded A B qs rs can run j other l t e second also);
   censuses = λ id shown answered.
-      let m = at A B qs rs (ask.ShowCensus id) (says.Shown shown) can run answered (λ e. cc) in
+      let m = at A B qs rs (requests.ShowCensus id) (replies.Shown shown) can run answered (λ e. cc) in
       shows_census rows add decided m.0 B id shown m.1.each m.3 m.2;
 }
 

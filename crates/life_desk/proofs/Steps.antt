@@ -11,11 +11,11 @@ use Rattle.life_store.specs.declared.kept.Deposit.{Deposit}
 use Rattle.life_store.specs.declared.kept.Census.{Census}
 use Rattle.life_store.specs.Kept.{numbered, deposit_by, census_by}
 use Rattle.life_desk.specs.declared.refusal.Refusal.{Refusal}
-use Rattle.life_desk.specs.declared.refusal.Refusal.TheVariants as no
+use Rattle.life_desk.specs.declared.refusal.Refusal.TheVariants as refusals
 use Rattle.life_desk.specs.declared.request.Request.{Request}
-use Rattle.life_desk.specs.declared.request.Request.TheVariants as ask
+use Rattle.life_desk.specs.declared.request.Request.TheVariants as requests
 use Rattle.life_desk.specs.declared.request.Reply.{Reply}
-use Rattle.life_desk.specs.declared.request.Reply.TheVariants as says
+use Rattle.life_desk.specs.declared.request.Reply.TheVariants as replies
 use Rattle.life_desk.specs.Archive.{Archive}
 use Rattle.life_desk.specs.Validation.{validated}
 use Rattle.life_desk.specs.Submission.{Verdict, Refuses, Repeats, Adds}
@@ -58,8 +58,8 @@ after_case : (P : Archive → Type 0) (A : Archive) (w : Result Request Refusal)
     → ((member token file : List ℕ) → P (with_deposit A (deposit_verdict A member token file)))
     → ((c : Census) → P (with_census A (census_verdict A c))) → P (after_by A w)
 after_case P A (Err refusal) none deposit census = none
-after_case P A (Ok (ask.Deposit member token file)) none deposit census = deposit member token file
-after_case P A (Ok (ask.Census member token id n limit)) none deposit census =
+after_case P A (Ok (requests.Deposit member token file)) none deposit census = deposit member token file
+after_case P A (Ok (requests.Census member token id n limit)) none deposit census =
     census (census_asked member token id n limit)
 after_case P A (Ok _) none deposit census = none
 
@@ -197,6 +197,6 @@ moment A B (p ∷ qs) [] q r can run answered = absurd answered
 
 -- a reply that is not unavailable is the reply, and the archive is the one after it
 pub step_answers : (A : Archive) (q : Request) (r : Reply) (B : Archive) → RequestStep A q r B
-    → r ≢ says.Refused no.Unavailable → IsReply A q r × (B ≡ after A q)
+    → r ≢ replies.Refused refusals.Unavailable → IsReply A q r × (B ≡ after A q)
 step_answers A q r B (answers s is) other = (is, refl)
 step_answers A q r B (gives_up is) other = absurd (other refl)

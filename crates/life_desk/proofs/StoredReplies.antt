@@ -9,9 +9,9 @@ use Rattle.life_store.specs.declared.kept.Deposit.{Deposit}
 use Rattle.life_store.specs.declared.kept.Census.{Census}
 use Rattle.life_store.specs.Kept.{file_of_deposit}
 use Rattle.life_store.specs.Tables.{ArchiveView}
-use Rattle.life_desk.specs.declared.refusal.Refusal.TheVariants as no
+use Rattle.life_desk.specs.declared.refusal.Refusal.TheVariants as refusals
 use Rattle.life_desk.specs.declared.request.Reply.{Reply}
-use Rattle.life_desk.specs.declared.request.Reply.TheVariants as says
+use Rattle.life_desk.specs.declared.request.Reply.TheVariants as replies
 use Rattle.life_desk.specs.declared.lookups.CountedCensus.{CountedCensus}
 use Rattle.life_desk.specs.Archive.{Archive, tally_at, steady_at}
 use Rattle.life_desk.specs.Represents.{Represents}
@@ -26,9 +26,9 @@ Leaves A new d o r =
     (r ≡ deposit_reply A (deposit_by_token A d o)) × Represents new (with_deposit A (deposit_by_token A d o))
 
 again_if : {S : Type 0} (A : Archive) (new : ArchiveView S) (id : ℕ) (same : Bool) (r : Reply)
-    → r ≡ (if same then says.Deposited id else says.Refused no.TokenReused) → Represents new A
-    → (r ≡ deposit_reply A (if same then Repeats id else Refuses no.TokenReused))
-    × Represents new (with_deposit A (if same then Repeats id else Refuses no.TokenReused))
+    → r ≡ (if same then replies.Deposited id else replies.Refused refusals.TokenReused) → Represents new A
+    → (r ≡ deposit_reply A (if same then Repeats id else Refuses refusals.TokenReused))
+    × Represents new (with_deposit A (if same then Repeats id else Refuses refusals.TokenReused))
 again_if A new id true r is m = (is, m)
 again_if A new id false r is m = (is, m)
 
@@ -36,13 +36,15 @@ again_if A new id false r is m = (is, m)
 pub told_again : {E S : Type 0} (A : Archive) (new : ArchiveView S)
     (d : Deposit) (o : Option (ℕ × Deposit)) (id : ℕ) (file : List ℕ) (r : Result Reply E)
     → ◌≡◌ {A = Option (ℕ × List ℕ)} (Some (id, file)) (option_map file_of_deposit o)
-    → IfOk r (λ x. x ≡ (if bytes_eq file (text d.content) then says.Deposited id else says.Refused no.TokenReused))
+    → IfOk r (λ x. x ≡ (if bytes_eq file
+    (text d.content) then replies.Deposited id else replies.Refused refusals.TokenReused))
     → Represents new A → MatchResult r (λ x. Leaves A new d o x) (λ _. Represents new A)
 told_again A new d None id file r is told m = absurd cc
 told_again A new d (Some stored) id file (Ok x) is told m =
     let same : ◌≡◌ {A = ℕ × List ℕ} (id, file) (file_of_deposit stored) = cc in
     again_if A new stored.0 (is_same_deposit stored.1 d) x (subst (λ (p : ℕ × List ℕ). x
-    ≡ (if bytes_eq p.1 (text d.content) then says.Deposited p.0 else says.Refused no.TokenReused)) same told) m
+    ≡ (if bytes_eq p.1 (text d.content) then replies.Deposited p.0 else replies.Refused refusals.TokenReused)) same
+    told) m
 told_again A new d (Some stored) id file (Err e) is told m = m
 
 -- it is new
@@ -67,17 +69,17 @@ counted_at ds c = record { census = c; tally = tally_at ds c; steady = steady_at
 
 tally_told : (ds : List Deposit) (o : Option Census) (counted : CountedCensus) (found : Found)
     → found ≡ Some counted → found ≡ option_map (counted_at ds) o
-    → says.Csv (csv_text counted.tally) ≡ csv_reply ds o
+    → replies.Csv (csv_text counted.tally) ≡ csv_reply ds o
 tally_told ds None counted found is tells = absurd cc
 tally_told ds (Some x) counted found is tells =
     let same : counted ≡ counted_at ds x = cc in
-    ap (λ (k : CountedCensus). says.Csv (csv_text k.tally)) same
+    ap (λ (k : CountedCensus). replies.Csv (csv_text k.tally)) same
 
 -- the reply with the tally as CSV
 pub csv_told : {E M : Type 0} → (ds : List Deposit) (o : Option Census) (found : Found) (counted : CountedCensus)
     (r : Result Reply E)
     → found ≡ Some counted → found ≡ option_map (counted_at ds) o
-    → IfOk r (λ reply. reply ≡ says.Csv (csv_text counted.tally)) → M
+    → IfOk r (λ reply. reply ≡ replies.Csv (csv_text counted.tally)) → M
     → MatchResult r (λ reply. (reply ≡ csv_reply ds o) × M) (λ _. M)
 csv_told ds o found counted (Ok reply) is tells told m = (told ∙ tally_told ds o counted found is tells, m)
 csv_told ds o found counted (Err e) is tells told m = m

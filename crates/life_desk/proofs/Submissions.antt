@@ -6,9 +6,9 @@ use Rattle.std.specs.List.{slice_get, AllByRecursion}
 use Rattle.std.proofs.lemmas.List.{append-nil}
 use Rattle.life_store.specs.Kept.{numbered, first_from}
 use Rattle.life_desk.specs.declared.refusal.Refusal.{Refusal}
-use Rattle.life_desk.specs.declared.refusal.Refusal.TheVariants as no
+use Rattle.life_desk.specs.declared.refusal.Refusal.TheVariants as refusals
 use Rattle.life_desk.specs.declared.request.Reply.{Reply}
-use Rattle.life_desk.specs.declared.request.Reply.TheVariants as says
+use Rattle.life_desk.specs.declared.request.Reply.TheVariants as replies
 use Rattle.life_desk.specs.Archive.{Archive}
 use Rattle.life_desk.specs.Submission.{Verdict, Refuses, Repeats, Adds, by_token, reply_of, stored_after}
 
@@ -99,7 +99,7 @@ pub all_after : {X : Type 0} (P : X → Type 0) (is_same : X → X → Bool) (ro
     (o : Option (ℕ × X)) → AllByRecursion P xs → P x → AllByRecursion P (stored_after xs (by_token is_same room x o))
 all_after P is_same room xs x (Some stored) all is =
     elim (is_same stored.1 x) as (λ b. AllByRecursion P
-    (stored_after xs (if b then Repeats stored.0 else Refuses no.TokenReused))) [ true ↦ all | false ↦ all ]
+    (stored_after xs (if b then Repeats stored.0 else Refuses refusals.TokenReused))) [ true ↦ all | false ↦ all ]
 all_after P is_same true xs x None all is = all_push P xs x all is
 all_after P is_same false xs x None all is = all
 
@@ -116,7 +116,7 @@ pub record Kind (X : Type 0) : Type 0 where
   pub under_itself : (x : X) → is_under x x ≡ true
   pub same_itself : (x : X) → is_same x x ≡ true
   pub one_number : (m n : ℕ) → number m ≡ number n → m ≡ n
-  pub no_refusal : (n : ℕ) (refusal : Refusal) → number n ≡ says.Refused refusal → ⊥
+  pub no_refusal : (n : ℕ) (refusal : Refusal) → number n ≡ replies.Refused refusal → ⊥
 
 module _ {X : Type 0} (k : Kind X) where
   -- what is found under its words
@@ -129,21 +129,21 @@ module _ {X : Type 0} (k : Kind X) where
 
   some_case : (xs : List X) (x : X) (n : ℕ) (stored : ℕ × X) (b : Bool) → k.is_same stored.1 x ≡ b
       → found_for x xs ≡ Some stored
-      → k.number n ≡ reply_of k.number xs (if b then Repeats stored.0 else Refuses no.TokenReused)
-      → IsStored (stored_after xs (if b then Repeats stored.0 else Refuses no.TokenReused)) x n
+      → k.number n ≡ reply_of k.number xs (if b then Repeats stored.0 else Refuses refusals.TokenReused)
+      → IsStored (stored_after xs (if b then Repeats stored.0 else Refuses refusals.TokenReused)) x n
   some_case xs x n stored true same is h =
       let number : n ≡ stored.0 = k.one_number n stored.0 h in
       (stored.1, is ∙ ap (λ m. Some (m, stored.1)) (sym number), same)
-  some_case xs x n stored false same is h = absurd (k.no_refusal n no.TokenReused h)
+  some_case xs x n stored false same is h = absurd (k.no_refusal n refusals.TokenReused h)
 
   none_case : (xs : List X) (x : X) (n : ℕ) (room : Bool) → found_for x xs ≡ None
-      → k.number n ≡ reply_of k.number xs (if room then Adds x else Refuses no.Full)
-      → IsStored (stored_after xs (if room then Adds x else Refuses no.Full)) x n
+      → k.number n ≡ reply_of k.number xs (if room then Adds x else Refuses refusals.Full)
+      → IsStored (stored_after xs (if room then Adds x else Refuses refusals.Full)) x n
   none_case xs x n true is h =
       let number : n ≡ length xs + 1 = k.one_number n (length xs + 1) h in
       let count : 1 + length xs ≡ n = omega (arith, number) in
       (x, found_added (k.is_under x) 1 xs x is (k.under_itself x) ∙ ap (λ m. Some (m, x)) count, k.same_itself x)
-  none_case xs x n false is h = absurd (k.no_refusal n no.Full h)
+  none_case xs x n false is h = absurd (k.no_refusal n refusals.Full h)
 
   token_case : (room : Bool) (xs : List X) (x : X) (n : ℕ) (o : Option (ℕ × X)) → found_for x xs ≡ o
       → k.number n ≡ reply_of k.number xs (by_token k.is_same room x o)
@@ -161,8 +161,8 @@ module _ {X : Type 0} (k : Kind X) where
   stored_longer xs more x n it = (it.0, found_longer (k.is_under x) 1 xs more (n, it.0) it.1, it.2)
 
   same_case : (xs : List X) (n : ℕ) (b : Bool) → b ≡ true
-      → (k.number n ≡ reply_of k.number xs (if b then Repeats n else Refuses no.TokenReused))
-      × (stored_after xs (if b then Repeats n else Refuses no.TokenReused) ≡ xs)
+      → (k.number n ≡ reply_of k.number xs (if b then Repeats n else Refuses refusals.TokenReused))
+      × (stored_after xs (if b then Repeats n else Refuses refusals.TokenReused) ≡ xs)
   same_case xs n true is = (refl, refl)
   same_case xs n false is = absurd cc
 

@@ -10,9 +10,9 @@ use Rattle.life_store.specs.declared.kept.Deposit.{Deposit}
 use Rattle.life_store.specs.declared.kept.Census.{Census}
 use Rattle.life_store.specs.Kept.{numbered, census_by, is_census_of}
 use Rattle.life_store.specs.Tables.{ArchiveView}
-use Rattle.life_desk.specs.declared.refusal.Refusal.TheVariants as no
+use Rattle.life_desk.specs.declared.refusal.Refusal.TheVariants as refusals
 use Rattle.life_desk.specs.declared.request.Reply.{Reply}
-use Rattle.life_desk.specs.declared.request.Reply.TheVariants as says
+use Rattle.life_desk.specs.declared.request.Reply.TheVariants as replies
 use Rattle.life_desk.specs.Archive.{Archive}
 use Rattle.life_desk.specs.DeskState.{reused_reply}
 use Rattle.life_desk.specs.Represents.{Represents, EachHasDeposit}
@@ -73,7 +73,7 @@ module _ {S : Type 0} (A : Archive) (new : ArchiveView S) (c : Census) where
 
   repeated_case : (id : ℕ) (stored : Census) (o : Option Deposit) → IsSome o
       → census_by c.member c.token A.censuses ≡ Some (id, stored) → is_same_census stored c ≡ true → Represents new A
-      → Leaves (census_of_deposit A c o) (says.Counted id)
+      → Leaves (census_of_deposit A c o) (replies.Counted id)
   repeated_case id stored None there is same m = absurd cc
   repeated_case id stored (Some d) there is same m =
       let it = by_deposit A c id d (Some d) refl (stored, is, same) in
@@ -82,7 +82,7 @@ module _ {S : Type 0} (A : Archive) (new : ArchiveView S) (c : Census) where
   -- it is stored: the number is answered, and nothing changes
   pub told_repeated : (id : ℕ) (stored : Census) → EachHasDeposit A.deposits A.censuses
       → Some (id, stored) ≡ census_by c.member c.token A.censuses → is_same_census stored c ≡ true → Represents new A
-      → Leaves (census_verdict A c) (says.Counted id)
+      → Leaves (census_verdict A c) (replies.Counted id)
   told_repeated id stored each is same m =
       repeated_case id stored (numbered A.deposits c.deposit)
       (has_deposit A c id stored each (sym is) same) (sym is) same m
@@ -93,7 +93,7 @@ module _ {S : Type 0} (A : Archive) (new : ArchiveView S) (c : Census) where
   reused_case id stored None r is other told m = (told, m)
   reused_case id stored (Some d) r is other told m =
       subst (λ p. Leaves (census_by_token A c p) r) is
-      (subst (λ b. Leaves (if b then Repeats id else Refuses no.TokenReused) r) (sym other) (told, m))
+      (subst (λ b. Leaves (if b then Repeats id else Refuses refusals.TokenReused) r) (sym other) (told, m))
 
   module _ {E : Type 0} (r : Result Reply E) where
     abbrev pub Gives : Verdict Census → Type 0

@@ -12,9 +12,9 @@ use Rattle.life_code.proofs.CodeMarks.{NoMark, front_unmarked}
 use Rattle.life_code.proofs.OpenLaws.{codes_spell}
 use Rattle.life_code.proofs.OpenCodeLemmas.{decoded_is}
 use Rattle.life_desk.specs.declared.refusal.Refusal.{Refusal}
-use Rattle.life_desk.specs.declared.refusal.Refusal.TheVariants as no
+use Rattle.life_desk.specs.declared.refusal.Refusal.TheVariants as refusals
 use Rattle.life_desk.specs.declared.request.Reply.{Reply}
-use Rattle.life_desk.specs.declared.request.Reply.TheVariants as says
+use Rattle.life_desk.specs.declared.request.Reply.TheVariants as replies
 use Rattle.life_desk.specs.Archive.{Archive, clusters_with}
 use Rattle.life_desk.specs.Replies.{IsTotal}
 
@@ -62,9 +62,9 @@ tells (Some t) text =
 total_case : (A : Archive) (rule : RuleSets) (text : List ℕ) (limit : ℕ) → limit ≤ 999999
     → (code_of rule (spelled text) limit ≡ Some text) ⊎ (code_of rule (spelled text) limit ≢ Some text)
     → (r : Reply) × IsTotal A rule text limit r
-total_case A rule text limit small (inl has) = (says.Total (clusters_with A rule text), (spelled text, has, refl))
+total_case A rule text limit small (inl has) = (replies.Total (clusters_with A rule text), (spelled text, has, refl))
 total_case A rule text limit small (inr none) =
-    (says.Refused no.BadCode, λ X is. none (has_spelled rule text limit X small is))
+    (replies.Refused refusals.BadCode, λ X is. none (has_spelled rule text limit X small is))
 
 pub total_there : (A : Archive) (rule : RuleSets) (text : List ℕ) (limit : ℕ) → limit ≤ 999999
     → (r : Reply) × IsTotal A rule text limit r
@@ -74,21 +74,21 @@ total_there A rule text limit small =
 -- ---- no two
 
 with_refusal : (A : Archive) (rule : RuleSets) (text : List ℕ) (limit n : ℕ) (refusal : Refusal)
-    → IsTotal A rule text limit (says.Total n) → IsTotal A rule text limit (says.Refused refusal) → ⊥
-with_refusal A rule text limit n no.BadCode one other = other one.0 one.1
+    → IsTotal A rule text limit (replies.Total n) → IsTotal A rule text limit (replies.Refused refusal) → ⊥
+with_refusal A rule text limit n refusals.BadCode one other = other one.0 one.1
 with_refusal A rule text limit n _ one other = other
 
 -- a refusal of a total is that of the code
 refusal_is : (A : Archive) (rule : RuleSets) (text : List ℕ) (limit : ℕ) (refusal : Refusal)
-    → IsTotal A rule text limit (says.Refused refusal) → refusal ≡ no.BadCode
-refusal_is A rule text limit no.BadCode is = refl
+    → IsTotal A rule text limit (replies.Refused refusal) → refusal ≡ refusals.BadCode
+refusal_is A rule text limit refusals.BadCode is = refl
 refusal_is A rule text limit _ is = absurd is
 
 -- what a reply to a request for a total is
 total_kind : (A : Archive) (rule : RuleSets) (text : List ℕ) (limit : ℕ) (r : Reply) → IsTotal A rule text limit r
-    → ((n : ℕ) × (r ≡ says.Total n)) ⊎ ((refusal : Refusal) × (r ≡ says.Refused refusal))
-total_kind A rule text limit (says.Total n) is = inl (n, refl)
-total_kind A rule text limit (says.Refused refusal) is = inr (refusal, refl)
+    → ((n : ℕ) × (r ≡ replies.Total n)) ⊎ ((refusal : Refusal) × (r ≡ replies.Refused refusal))
+total_kind A rule text limit (replies.Total n) is = inl (n, refl)
+total_kind A rule text limit (replies.Refused refusal) is = inr (refusal, refl)
 total_kind A rule text limit _ is = absurd is
 
 pub total_one : (A : Archive) (rule : RuleSets) (text : List ℕ) (limit : ℕ) (r s : Reply) → IsTotal A rule text limit r
@@ -96,12 +96,12 @@ pub total_one : (A : Archive) (rule : RuleSets) (text : List ℕ) (limit : ℕ) 
 total_one A rule text limit r s one other =
     by (total_kind A rule text limit r one) (total_kind A rule text limit s other)
   where
-    by : ((n : ℕ) × (r ≡ says.Total n)) ⊎ ((refusal : Refusal) × (r ≡ says.Refused refusal))
-        → ((n : ℕ) × (s ≡ says.Total n)) ⊎ ((refusal : Refusal) × (s ≡ says.Refused refusal)) → s ≡ r
+    by : ((n : ℕ) × (r ≡ replies.Total n)) ⊎ ((refusal : Refusal) × (r ≡ replies.Refused refusal))
+        → ((n : ℕ) × (s ≡ replies.Total n)) ⊎ ((refusal : Refusal) × (s ≡ replies.Refused refusal)) → s ≡ r
     by (inl a) (inl b) =
-        let x : IsTotal A rule text limit (says.Total a.0) = subst (λ y. IsTotal A rule text limit y) a.1 one in
-        let z : IsTotal A rule text limit (says.Total b.0) = subst (λ y. IsTotal A rule text limit y) b.1 other in
-        b.1 ∙ ap says.Total (z.2 ∙ sym x.2) ∙ sym a.1
+        let x : IsTotal A rule text limit (replies.Total a.0) = subst (λ y. IsTotal A rule text limit y) a.1 one in
+        let z : IsTotal A rule text limit (replies.Total b.0) = subst (λ y. IsTotal A rule text limit y) b.1 other in
+        b.1 ∙ ap replies.Total (z.2 ∙ sym x.2) ∙ sym a.1
     by (inl a) (inr b) =
         absurd (with_refusal A rule text limit a.0 b.0 (subst (λ y. IsTotal A rule text limit y) a.1 one)
         (subst (λ y. IsTotal A rule text limit y) b.1 other))
@@ -109,5 +109,5 @@ total_one A rule text limit r s one other =
         absurd (with_refusal A rule text limit b.0 a.0 (subst (λ y. IsTotal A rule text limit y) b.1 other)
         (subst (λ y. IsTotal A rule text limit y) a.1 one))
     by (inr a) (inr b) =
-        b.1 ∙ ap says.Refused (refusal_is A rule text limit b.0 (subst (λ y. IsTotal A rule text limit y) b.1 other)
+        b.1 ∙ ap replies.Refused (refusal_is A rule text limit b.0 (subst (λ y. IsTotal A rule text limit y) b.1 other)
         ∙ sym (refusal_is A rule text limit a.0 (subst (λ y. IsTotal A rule text limit y) a.1 one))) ∙ sym a.1

@@ -6,9 +6,9 @@ use Rattle.life_store.specs.Recoverable.{Recoverable}
 use Rattle.life_store.specs.Tables.{ArchiveView, IsTransition, IsHealthyIfClean}
 use Rattle.life_store.specs.declared.store_fault.Unavailable.{Unavailable}
 use Rattle.life_store.specs.declared.kept.Deposit.{Deposit}
-use Rattle.life_desk.specs.declared.refusal.Refusal.TheVariants as no
+use Rattle.life_desk.specs.declared.refusal.Refusal.TheVariants as refusals
 use Rattle.life_desk.specs.declared.request.Reply.{Reply}
-use Rattle.life_desk.specs.declared.request.Reply.TheVariants as says
+use Rattle.life_desk.specs.declared.request.Reply.TheVariants as replies
 use Rattle.life_desk.specs.Archive.{Archive}
 use Rattle.life_desk.specs.Represents.{Represents, RecoveredRepresents}
 use Rattle.life_desk.specs.Replies.{acknowledges}
@@ -59,8 +59,8 @@ Promises g new result = IfOk result (λ r. acknowledges r ≡ true → IsHealthy
 
 -- The refusal of a census whose token is used by another census, by its deposit: a missing one is refused first.
 abbrev pub reused_reply : Option Deposit → Reply
-reused_reply None = says.Refused no.NoSuchDeposit
-reused_reply (Some d) = says.Refused no.TokenReused
+reused_reply None = replies.Refused refusals.NoSuchDeposit
+reused_reply (Some d) = replies.Refused refusals.TokenReused
 
 -- ---- calls that only show something
 

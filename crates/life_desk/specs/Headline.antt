@@ -23,9 +23,9 @@ use Rattle.life_store.specs.Kept.{numbered}
 use Rattle.life_store.specs.Recoverable.{IsHonest}
 use Rattle.life_store.specs.Tables.{ArchiveView, HasFailed}
 use Rattle.life_desk.specs.declared.request.Request.{Request}
-use Rattle.life_desk.specs.declared.request.Request.TheVariants as ask
+use Rattle.life_desk.specs.declared.request.Request.TheVariants as requests
 use Rattle.life_desk.specs.declared.request.Reply.{Reply}
-use Rattle.life_desk.specs.declared.request.Reply.TheVariants as says
+use Rattle.life_desk.specs.declared.request.Reply.TheVariants as replies
 use Rattle.life_desk.specs.declared.request.Shown.{Shown}
 use Rattle.life_desk.specs.Archive.{Archive, clusters_with}
 use Rattle.life_desk.specs.Represents.{IsRepresentable, Represents}
@@ -61,33 +61,33 @@ pub record Headline (A : Archive) (qs : List Request) (rs : List Reply) (B : Arc
   pub later : IsLater A B
   -- the number of a deposit names what was deposited
   pub deposited : (member token file : List ℕ) (n : ℕ)
-      → IsAnswered qs rs (ask.Deposit member token file) (says.Deposited n)
+      → IsAnswered qs rs (requests.Deposit member token file) (replies.Deposited n)
       → (content : Contents) × (files.file file ≡ Ok content)
       × (numbered B.deposits n ≡ Some (record { member = member; token = token; content = content }))
   -- the file that is shown is the text of what was deposited
-  pub shows : (id : ℕ) (bytes : List ℕ) → IsAnswered qs rs (ask.Show id) (says.File bytes)
+  pub shows : (id : ℕ) (bytes : List ℕ) → IsAnswered qs rs (requests.Show id) (replies.File bytes)
       → (d : Deposit) × (numbered B.deposits id ≡ Some d) × (bytes ≡ writer.text d.content)
   -- generation n is the rule applied n times
-  pub generations : (id n : ℕ) (bytes : List ℕ) → IsAnswered qs rs (ask.At id n) (says.File bytes)
+  pub generations : (id n : ℕ) (bytes : List ℕ) → IsAnswered qs rs (requests.At id n) (replies.File bytes)
       → (d : Deposit) × (numbered B.deposits id ≡ Some d)
       × (bytes ≡ writer.text (plain d.content.rule (generation_of d.content.rule d.content.cells n)))
   -- the kind and the code are those of the deposit's pattern
   pub kinds : (id limit : ℕ) (k : Kind) (code : Option (List ℕ))
-      → IsAnswered qs rs (ask.KindOf id limit) (says.Kinded k code)
+      → IsAnswered qs rs (requests.KindOf id limit) (replies.Kinded k code)
       → (d : Deposit) × (numbered B.deposits id ≡ Some d) × (k ≡ kind_of d.content.rule d.content.cells limit)
       × (code ≡ code_of d.content.rule d.content.cells limit)
   -- two coded patterns of one rule share a code exactly if a translation, rotation or reflection takes one to a phase
   -- of the other
   pub codes : (i j limit other : ℕ) (k l : Kind) (s t : List ℕ) (d e : Deposit)
-      → IsAnswered qs rs (ask.KindOf i limit) (says.Kinded k (Some s))
-      → IsAnswered qs rs (ask.KindOf j other) (says.Kinded l (Some t))
+      → IsAnswered qs rs (requests.KindOf i limit) (replies.Kinded k (Some s))
+      → IsAnswered qs rs (requests.KindOf j other) (replies.Kinded l (Some t))
       → numbered B.deposits i ≡ Some d → numbered B.deposits j ≡ Some e → d.content.rule ≡ e.content.rule
       → (s ≡ t) ↔ Same d.content.rule d.content.cells e.content.cells
   -- a census counts every cluster once, under its code or as unresolved
-  pub censuses : (id : ℕ) (shown : Shown) → IsAnswered qs rs (ask.ShowCensus id) (says.Shown shown)
+  pub censuses : (id : ℕ) (shown : Shown) → IsAnswered qs rs (requests.ShowCensus id) (replies.Shown shown)
       → ShowsCensus B id shown
   -- a total is how many clusters have the code in all censuses at that moment, of deposits with the rule
-  pub totals : (text code : List ℕ) (limit n : ℕ) → IsAnswered qs rs (ask.Total text code limit) (says.Total n)
+  pub totals : (text code : List ℕ) (limit n : ℕ) → IsAnswered qs rs (requests.Total text code limit) (replies.Total n)
       → (rule : RuleSets) × (M : Archive) × (read_rule text ≡ Ok rule) × IsLater A M × IsLater M B
       × (n ≡ clusters_with M rule code)
 

@@ -9,11 +9,11 @@ use Rattle.life_rle.specs.Writer as writer
 use Rattle.life_census.specs.Steady.{IsSteady}
 use Rattle.life_store.specs.declared.kept.Deposit.{Deposit}
 use Rattle.life_store.specs.Kept.{numbered}
-use Rattle.life_desk.specs.declared.refusal.Refusal.TheVariants as no
+use Rattle.life_desk.specs.declared.refusal.Refusal.TheVariants as refusals
 use Rattle.life_desk.specs.declared.request.Request.{Request}
-use Rattle.life_desk.specs.declared.request.Request.TheVariants as ask
+use Rattle.life_desk.specs.declared.request.Request.TheVariants as requests
 use Rattle.life_desk.specs.declared.request.Reply.{Reply}
-use Rattle.life_desk.specs.declared.request.Reply.TheVariants as says
+use Rattle.life_desk.specs.declared.request.Reply.TheVariants as replies
 use Rattle.life_desk.specs.declared.request.Shown.{Shown}
 use Rattle.life_desk.specs.Archive.{Archive}
 use Rattle.life_desk.specs.Represents.{IsReadAgain, EachIsReadAgain}
@@ -42,7 +42,8 @@ NothingIsLost = (A B : Archive) (qs : List Request) (rs : List Reply) → Reques
 abbrev pub DepositsStay : Type 0
 DepositsStay =
     (A B : Archive) (member token file : List ℕ) (n : ℕ) → EachIsReadAgain A.deposits
-    → IsReply A (ask.Deposit member token file) (says.Deposited n) → IsLater (after A (ask.Deposit member token file)) B
+    → IsReply A (requests.Deposit member token file) (replies.Deposited n)
+    → IsLater (after A (requests.Deposit member token file)) B
     → (content : Contents) × (files.file file ≡ Ok content)
     × (numbered B.deposits n ≡ Some (record { member = member; token = token; content = content }))
 
@@ -50,8 +51,8 @@ DepositsStay =
 abbrev pub CensusesStay : Type 0
 CensusesStay =
     (A B : Archive) (member token : List ℕ) (deposit generation limit n : ℕ)
-    → IsReply A (ask.Census member token deposit generation limit) (says.Counted n)
-    → IsLater (after A (ask.Census member token deposit generation limit)) B
+    → IsReply A (requests.Census member token deposit generation limit) (replies.Counted n)
+    → IsLater (after A (requests.Census member token deposit generation limit)) B
     → numbered B.censuses n ≡ Some
     (record { member = member; token = token; deposit = deposit; generation = generation; limit = limit })
 
@@ -60,30 +61,31 @@ CensusesStay =
 abbrev pub DepositsActOnce : Type 0
 DepositsActOnce =
     (A B : Archive) (member token file again : List ℕ) (n : ℕ)
-    → IsReply A (ask.Deposit member token file) (says.Deposited n)
-    → IsLater (after A (ask.Deposit member token file)) B → files.file again ≡ files.file file
-    → IsReply B (ask.Deposit member token again) (says.Deposited n) × (after B (ask.Deposit member token again) ≡ B)
+    → IsReply A (requests.Deposit member token file) (replies.Deposited n)
+    → IsLater (after A (requests.Deposit member token file)) B → files.file again ≡ files.file file
+    → IsReply B (requests.Deposit member token again) (replies.Deposited n)
+    × (after B (requests.Deposit member token again) ≡ B)
 
 -- The same of a census.
 abbrev pub CensusesActOnce : Type 0
 CensusesActOnce =
     (A B : Archive) (member token : List ℕ) (deposit generation limit n : ℕ)
-    → IsReply A (ask.Census member token deposit generation limit) (says.Counted n)
-    → IsLater (after A (ask.Census member token deposit generation limit)) B
-    → IsReply B (ask.Census member token deposit generation limit) (says.Counted n)
-    × (after B (ask.Census member token deposit generation limit) ≡ B)
+    → IsReply A (requests.Census member token deposit generation limit) (replies.Counted n)
+    → IsLater (after A (requests.Census member token deposit generation limit)) B
+    → IsReply B (requests.Census member token deposit generation limit) (replies.Counted n)
+    × (after B (requests.Census member token deposit generation limit) ≡ B)
 
 -- The flag that a census is shown with is true exactly if its generation of its deposit is steady under its limit.
 abbrev pub FlagTellsSteady : Type 0
 FlagTellsSteady =
-    (A : Archive) (id : ℕ) (shown : Shown) (d : Deposit) → IsReply A (ask.ShowCensus id) (says.Shown shown)
+    (A : Archive) (id : ℕ) (shown : Shown) (d : Deposit) → IsReply A (requests.ShowCensus id) (replies.Shown shown)
     → numbered A.deposits shown.deposit ≡ Some d
     → IsTrue shown.steady ↔ IsSteady d.content.rule
     (generation_of d.content.rule d.content.cells shown.generation) shown.limit
 
 -- nothing was answered unavailable
 abbrev pub AllAnswered : List Reply → Type 0
-AllAnswered rs = AllByRecursion (λ r. r ≢ says.Refused no.Unavailable) rs
+AllAnswered rs = AllByRecursion (λ r. r ≢ replies.Refused refusals.Unavailable) rs
 
 -- Two runs of the same requests from the same archive, in which nothing was answered unavailable, are equal.
 abbrev pub SameReplies : Type 0

@@ -7,10 +7,10 @@ use Rattle.life_store.specs.declared.kept.Deposit.{Deposit}
 use Rattle.life_store.specs.declared.kept.Census.{Census}
 use Rattle.life_store.specs.Recoverable.{IsHonest, Recoverable, MayBeRecovered}
 use Rattle.life_store.specs.Tables.{ArchiveView, IsTransition}
-use Rattle.life_desk.specs.declared.refusal.Refusal.TheVariants as no
+use Rattle.life_desk.specs.declared.refusal.Refusal.TheVariants as refusals
 use Rattle.life_desk.specs.declared.request.Request.{Request}
 use Rattle.life_desk.specs.declared.request.Reply.{Reply}
-use Rattle.life_desk.specs.declared.request.Reply.TheVariants as says
+use Rattle.life_desk.specs.declared.request.Reply.TheVariants as replies
 use Rattle.life_desk.specs.Archive.{Archive}
 use Rattle.life_desk.specs.Validation.{validated}
 use Rattle.life_desk.specs.Replies.{IsReply, after, acknowledges}
@@ -19,7 +19,7 @@ use Rattle.life_desk.specs.Represents.{Represents, RecoveredRepresents}
 -- one request: its reply and its change; or, if its own fields are valid, it is unavailable and nothing changes
 pub data RequestStep (A : Archive) (q : Request) : Reply → Archive → Type 0 where
   answers : (r : Reply) → IsReply A q r → RequestStep A q r (after A q)
-  gives_up : IsOk (validated q) → RequestStep A q (says.Refused no.Unavailable) A
+  gives_up : IsOk (validated q) → RequestStep A q (replies.Refused refusals.Unavailable) A
 
 -- Every archive may give this reply, and stays unchanged: the reply says nothing about what is stored.
 abbrev pub IsIdle : Request → Reply → Type 0

@@ -2,9 +2,9 @@
 -- added.
 use Rattle.std.specs.Prelude.{ℕ, ◌+◌, ◌++◌, Bool, List, [], ◌∷◌, length, Option, None, Some, if◌then◌else◌}
 use Rattle.life_desk.specs.declared.refusal.Refusal.{Refusal}
-use Rattle.life_desk.specs.declared.refusal.Refusal.TheVariants as no
+use Rattle.life_desk.specs.declared.refusal.Refusal.TheVariants as refusals
 use Rattle.life_desk.specs.declared.request.Reply.{Reply}
-use Rattle.life_desk.specs.declared.request.Reply.TheVariants as says
+use Rattle.life_desk.specs.declared.request.Reply.TheVariants as replies
 
 -- the verdict
 pub data Verdict (X : Type 0) : Type 0 where
@@ -18,12 +18,13 @@ pub data Verdict (X : Type 0) : Type 0 where
 -- The verdict on x, given what is stored under its token and the number of that: if it is the same, x repeats it; if it
 -- differs, x is refused. A new one is added if there is room.
 abbrev pub by_token : {X : Type 0} → (X → X → Bool) → Bool → X → Option (ℕ × X) → Verdict X
-by_token is_same has_room x (Some stored) = if is_same stored.1 x then Repeats stored.0 else Refuses no.TokenReused
-by_token is_same has_room x None = if has_room then Adds x else Refuses no.Full
+by_token is_same has_room x (Some stored) =
+    if is_same stored.1 x then Repeats stored.0 else Refuses refusals.TokenReused
+by_token is_same has_room x None = if has_room then Adds x else Refuses refusals.Full
 
 -- the reply, if these are stored before it; `number` is the reply with a number
 abbrev pub reply_of : {X : Type 0} → (ℕ → Reply) → List X → Verdict X → Reply
-reply_of number xs (Refuses refusal) = says.Refused refusal
+reply_of number xs (Refuses refusal) = replies.Refused refusal
 reply_of number xs (Repeats id) = number id
 reply_of number xs (Adds x) = number (length xs + 1)
 

@@ -12,7 +12,7 @@ use Rattle.life_core.specs.RuleText.{read_rule}
 use Rattle.life_desk.specs.declared.refusal.Refusal.{Refusal}
 use Rattle.life_desk.specs.declared.refusal.Refusal.TheVariants.{BadMember, BadToken, OutOfLimit, BadRule, Unavailable}
 use Rattle.life_desk.specs.declared.request.Request.{Request}
-use Rattle.life_desk.specs.declared.request.Request.TheVariants as ask
+use Rattle.life_desk.specs.declared.request.Request.TheVariants as requests
 
 abbrev pub is_between : ℕ → ℕ → ℕ → Bool
 is_between low high n = nat_le low n && nat_le n high
@@ -60,20 +60,20 @@ first_fault None later = later
 
 -- the refusal of a request for its own fields, if one of them is invalid
 abbrev pub fault_in : Request → Option Refusal
-fault_in (ask.Deposit member token file) = names_fault member token
-fault_in (ask.At id n) = generation_fault n
-fault_in (ask.KindOf id limit) = limit_fault limit
-fault_in (ask.Census member token id n limit) =
+fault_in (requests.Deposit member token file) = names_fault member token
+fault_in (requests.At id n) = generation_fault n
+fault_in (requests.KindOf id limit) = limit_fault limit
+fault_in (requests.Census member token id n limit) =
     first_fault (names_fault member token) (first_fault (generation_fault n) (limit_fault limit))
-fault_in (ask.Total rule code limit) = first_fault (limit_fault limit) (rule_fault (read_rule rule))
+fault_in (requests.Total rule code limit) = first_fault (limit_fault limit) (rule_fault (read_rule rule))
 fault_in _ = None
 
 -- what the limits of a request without an invalid field are
 abbrev pub IsGood : Request → Type 0
-IsGood (ask.At id n) = n ≤ GENERATION_LIMIT
-IsGood (ask.KindOf id limit) = (1 ≤ limit) × (limit ≤ PERIOD_LIMIT)
-IsGood (ask.Census member token id n limit) = (n ≤ GENERATION_LIMIT) × (1 ≤ limit) × (limit ≤ PERIOD_LIMIT)
-IsGood (ask.Total rule code limit) = (1 ≤ limit) × (limit ≤ PERIOD_LIMIT)
+IsGood (requests.At id n) = n ≤ GENERATION_LIMIT
+IsGood (requests.KindOf id limit) = (1 ≤ limit) × (limit ≤ PERIOD_LIMIT)
+IsGood (requests.Census member token id n limit) = (n ≤ GENERATION_LIMIT) × (1 ≤ limit) × (limit ≤ PERIOD_LIMIT)
+IsGood (requests.Total rule code limit) = (1 ≤ limit) × (limit ≤ PERIOD_LIMIT)
 IsGood _ = Unit {0}
 
 abbrev pub validated_by : Option Refusal → Request → Result Request Refusal

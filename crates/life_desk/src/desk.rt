@@ -4,7 +4,7 @@ ghost use Rattle.life_rle.specs.Record.{IsInside};
 ghost use Rattle.life_store.specs.Kept.{numbered, deposit_by, census_by, listed_after};
 ghost use Rattle.life_store.specs.Crash.{NothingNew};
 ghost use Rattle.life_store.specs.Tables.{IsTransition, IsHealthyIfClean, HoldsTheSame, HasOrder};
-ghost use Rattle.life_desk.specs.declared.request.Reply.TheVariants as says;
+ghost use Rattle.life_desk.specs.declared.request.Reply.TheVariants as replies;
 ghost use Rattle.life_desk.specs.declared.refusal.Refusal.TheVariants as refusals;
 ghost use Rattle.life_desk.specs.Submission.{Adds};
 ghost use Rattle.life_desk.specs.Replies.{deposit_by_token, deposit_verdict, deposit_reply, with_deposit, is_same_census, census_by_token, census_verdict, census_reply, with_census, file_reply, at_reply, kind_reply, shown_reply, csv_reply, IsTotal, IsTotalUnder, IsReplyTo, after_all_of, is_shown};
@@ -41,7 +41,7 @@ use std::alloc::Global;
 
 /// The reply if the token is used already: the number of what is stored under it, if that is the same.
 fn repeated(is_same: bool, number: Reply) -> Reply
-    ensures { result ≡ (if is_same then number else says.Refused refusals.TokenReused) }
+    ensures { result ≡ (if is_same then number else replies.Refused refusals.TokenReused) }
 {
     if is_same {
         number
@@ -52,7 +52,7 @@ fn repeated(is_same: bool, number: Reply) -> Reply
 
 /// The reply to a deposit whose token is used already, given the file that is stored under it.
 fn kept_again(alloc: Global, id: u64, file: &[u8], deposit: &Deposit) -> Result<Reply, Unavailable>
-    ensures { IfOk result (λ r. r ≡ (if bytes_eq file.now (text deposit.now.content) then says.Deposited id else says.Refused refusals.TokenReused)) }
+    ensures { IfOk result (λ r. r ≡ (if bytes_eq file.now (text deposit.now.content) then replies.Deposited id else replies.Refused refusals.TokenReused)) }
 {
     let text = write(alloc, &deposit.content)?;
     Ok(repeated(file == text.as_slice(), Reply::Deposited(id)))
@@ -144,7 +144,7 @@ fn list_after<S: Alter>(
     alloc: Global,
     id: u64,
 ) -> Result<Reply, Unavailable>
-    ensures { OnlyShows S.Store archive.old archive.new result (λ A r. r ≡ says.Deposits (listed_after id A.deposits)) }
+    ensures { OnlyShows S.Store archive.old archive.new result (λ A r. r ≡ replies.Deposits (listed_after id A.deposits)) }
 {
     Ok(Reply::Deposits(deposits_after(archive, alloc, id)?))
 }
@@ -364,7 +364,7 @@ fn show_census<S: Alter>(
 
 /// The reply with a tally as CSV.
 fn csv_of(alloc: Global, tally: &Tally) -> Result<Reply, Unavailable>
-    ensures { IfOk result (λ r. r ≡ says.Csv (csv_text tally.now)) }
+    ensures { IfOk result (λ r. r ≡ replies.Csv (csv_text tally.now)) }
 {
     Ok(Reply::Csv(Bytes::of(csv(alloc, tally)?)))
 }
@@ -487,11 +487,11 @@ pub fn answer<S: Alter>(archive: &mut Archive<S>, alloc: Global, request: Reques
     // If the database is not healthy, no reply says anything about what is stored, unless its disk has lied.
     ensures healthy { IsHealthyIfClean S.Store archive.new ⊎ IsIdle request result }
     // If the reply shows what is stored, nothing has changed, and it might have been unavailable instead.
-    ensures may_be_unavailable { is_shown result ≡ true → Answered S.Store archive.old archive.new (request ∷ []) (says.Refused refusals.Unavailable ∷ []) }
+    ensures may_be_unavailable { is_shown result ≡ true → Answered S.Store archive.old archive.new (request ∷ []) (replies.Refused refusals.Unavailable ∷ []) }
     // A crash during the call leaves the archive as it was before the request or after it.
     ensures crash { IsCrashSafe S.Store archive.old archive.new (request ∷ []) (result ∷ []) }
     // A refusal for the request's own fields comes whatever the store does.
-    ensures own_refusals { IfErr (validated request) (λ refusal. (result ≡ says.Refused refusal) × (archive.new ≡ archive.old)) }
+    ensures own_refusals { IfErr (validated request) (λ refusal. (result ≡ replies.Refused refusal) × (archive.new ≡ archive.old)) }
 {
     archive.law_of_crashes();
     match validate(&request) {

@@ -2,7 +2,7 @@
 ghost use Rattle.std.specs.Prelude.{◌≡◌, ◌≤◌, ℕ, List, OnOk};
 ghost use Rattle.std.specs.List.{list_all};
 ghost use Rattle.life_core.specs.RuleText.{read_rule};
-ghost use Rattle.life_desk.specs.declared.request.Request.TheVariants as ask;
+ghost use Rattle.life_desk.specs.declared.request.Request.TheVariants as requests;
 ghost use Rattle.life_desk.specs.Validation.{is_member, is_token, is_member_byte, is_token_byte, is_between, names_fault, generation_fault, limit_fault, rule_fault, first_fault, fault_in, validated, checked, IsChecked, IsGood};
 
 use crate::refusal::Refusal;
@@ -130,21 +130,21 @@ fn check_total_fields(rule: &[u8], limit: u64) -> Result<(), Refusal>
 /// Whether the fields of a deposit are valid, whatever its file is. These are the refusals of [`answer`](crate::answer) that depend
 /// on the fields alone, found before anything is copied.
 pub fn check_deposit(member: &[u8], token: &[u8]) -> Result<(), Refusal>
-    ensures { (file : List ℕ) → IsChecked result (validated (ask.Deposit member.now token.now file)) }
+    ensures { (file : List ℕ) → IsChecked result (validated (requests.Deposit member.now token.now file)) }
 {
     check_names(member, token)
 }
 
 /// The same for a census, whatever its deposit is.
 pub fn check_census(member: &[u8], token: &[u8], n: u64, limit: u64) -> Result<(), Refusal>
-    ensures { (deposit : ℕ) → IsChecked result (validated (ask.Census member.now token.now deposit n limit)) }
+    ensures { (deposit : ℕ) → IsChecked result (validated (requests.Census member.now token.now deposit n limit)) }
 {
     check_census_fields(member, token, n, limit)
 }
 
 /// The same for a total, whatever its code is.
 pub fn check_total(rule: &[u8], limit: u64) -> Result<(), Refusal>
-    ensures { (code : List ℕ) → IsChecked result (validated (ask.Total rule.now code limit)) }
+    ensures { (code : List ℕ) → IsChecked result (validated (requests.Total rule.now code limit)) }
 {
     check_total_fields(rule, limit)
 }

@@ -5,7 +5,7 @@ use Rattle.life_store.specs.Tables.{ArchiveView}
 use Rattle.life_desk.specs.declared.refusal.Refusal.{Refusal}
 use Rattle.life_desk.specs.declared.request.Request.{Request}
 use Rattle.life_desk.specs.declared.request.Reply.{Reply}
-use Rattle.life_desk.specs.declared.request.Reply.TheVariants as says
+use Rattle.life_desk.specs.declared.request.Reply.TheVariants as replies
 use Rattle.life_desk.specs.Validation.{validated, MayRefuse}
 use Rattle.life_desk.specs.Replies.{is_shown}
 use Rattle.life_pages.specs.declared.fault.MessageRefusal.{MessageRefusal}
@@ -16,20 +16,20 @@ use Rattle.life_pages.specs.Archive.{StoreAnswers, AnswersFirmly}
 
 -- what is refused for its own words is not shown
 pub shown_not_refused : {J : Type 0} (x : Result J Refusal) (r s : Reply) (P : Type 0) → is_shown r ≡ true
-    → IfErr x (λ refusal. (r ≡ says.Refused refusal) × P)
-    → IfErr x (λ refusal. (s ≡ says.Refused refusal) × P)
+    → IfErr x (λ refusal. (r ≡ replies.Refused refusal) × P)
+    → IfErr x (λ refusal. (s ≡ replies.Refused refusal) × P)
 shown_not_refused (Ok j) r s P shown it = tt
 shown_not_refused (Err own) r s P shown it = let bad = rw it.0 at shown in absurd (cc)
 
 -- what is refused unasked is refused for its own words, if they are not good
 pub unasked_firm : {D J : Type 0} (d : D) (x : Result J Refusal) (refusal : Refusal) → MayRefuse x refusal
-    → IfErr x (λ own. (says.Refused refusal ≡ says.Refused own) × (d ≡ d))
+    → IfErr x (λ own. (replies.Refused refusal ≡ replies.Refused own) × (d ≡ d))
 unasked_firm d (Ok j) refusal may = tt
-unasked_firm d (Err own) refusal (inl is) = let same : refusal ≡ own = cc in (ap says.Refused same, refl)
+unasked_firm d (Err own) refusal (inl is) = let same : refusal ≡ own = cc in (ap replies.Refused same, refl)
 unasked_firm d (Err own) refusal (inr (fine, is)) = absurd (cc)
 
 firm_reply : {J : Type 0} (x : Result J Refusal) (r : Reply) (P : Type 0)
-    → IfErr x (λ refusal. (r ≡ says.Refused refusal) × P) → IfErr x (λ refusal. r ≡ says.Refused refusal)
+    → IfErr x (λ refusal. (r ≡ replies.Refused refusal) × P) → IfErr x (λ refusal. r ≡ replies.Refused refusal)
 firm_reply (Ok j) r P it = tt
 firm_reply (Err own) r P it = it.0
 

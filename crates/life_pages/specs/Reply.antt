@@ -6,7 +6,7 @@ use Rattle.life_rle.specs.RleFault.{fault_number}
 use Rattle.life_desk.specs.declared.refusal.Refusal.{Refusal}
 use Rattle.life_desk.specs.declared.refusal.Refusal.TheVariants.{BadPattern}
 use Rattle.life_desk.specs.declared.request.Reply.{Reply}
-use Rattle.life_desk.specs.declared.request.Reply.TheVariants as says
+use Rattle.life_desk.specs.declared.request.Reply.TheVariants as replies
 use Rattle.life_desk.specs.Refusals as refusals
 use Rattle.life_pages.specs.declared.fault.MessageRefusal.{MessageRefusal}
 use Rattle.life_pages.specs.declared.fault.MessageRefusal.TheVariants.{NoSuchRoute, BadMethod, BadMessage}
@@ -44,27 +44,27 @@ fault_part _ = []
 -- ---- the replies of the archive
 
 abbrev pub reply_status : Reply → ℕ
-reply_status (says.Deposited id) = 201
-reply_status (says.Counted id) = 201
-reply_status (says.Refused refusal) = refusals.status_of refusal
+reply_status (replies.Deposited id) = 201
+reply_status (replies.Counted id) = 201
+reply_status (replies.Refused refusal) = refusals.status_of refusal
 reply_status _ = 200
 
 abbrev pub type_of : Reply → List ℕ
-type_of (says.File bytes) = codes "text/plain"
-type_of (says.Csv bytes) = codes "text/csv"
+type_of (replies.File bytes) = codes "text/plain"
+type_of (replies.Csv bytes) = codes "text/csv"
 type_of _ = json
 
 abbrev pub reply_body : Reply → List ℕ
-reply_body (says.Deposited id) = number_body (codes "deposit") id
-reply_body (says.Counted id) = number_body (codes "census") id
-reply_body (says.Total n) = number_body (codes "total") n
-reply_body (says.Refused refusal) =
+reply_body (replies.Deposited id) = number_body (codes "deposit") id
+reply_body (replies.Counted id) = number_body (codes "census") id
+reply_body (replies.Total n) = number_body (codes "total") n
+reply_body (replies.Refused refusal) =
     refusal_body (refusals.name_of refusal) (refusals.number_of refusal) (fault_part refusal)
-reply_body (says.File bytes) = bytes
-reply_body (says.Csv bytes) = bytes
-reply_body (says.Deposits lines) = compact_text (list_data lines)
-reply_body (says.Kinded kind code) = compact_text (kind_data kind code)
-reply_body (says.Shown shown) = compact_text (shown_data shown)
+reply_body (replies.File bytes) = bytes
+reply_body (replies.Csv bytes) = bytes
+reply_body (replies.Deposits lines) = compact_text (list_data lines)
+reply_body (replies.Kinded kind code) = compact_text (kind_data kind code)
+reply_body (replies.Shown shown) = compact_text (shown_data shown)
 
 abbrev pub bytes_of : Reply → List ℕ
 bytes_of reply = reply_bytes (reply_status reply) (type_of reply) (reply_body reply)

@@ -7,7 +7,7 @@ use Rattle.matchit.specs.Route.{parse_route, Scan}
 use Rattle.matchit.specs.Order.{placed}
 use Rattle.matchit.specs.Router.{RouteOf, route_from}
 use Rattle.matchit.specs.declared.error.InsertError.{InsertError}
-use Rattle.life_desk.specs.declared.request.Request.TheVariants as ask
+use Rattle.life_desk.specs.declared.request.Request.TheVariants as requests
 use Rattle.life_pages.specs.declared.route.TheConstants.{ROUTES}
 use Rattle.life_pages.specs.declared.route.Method.{Method}
 use Rattle.life_pages.specs.declared.route.Template.{Template}
@@ -47,9 +47,9 @@ route_rows = with_routes routes_listed []
 -- what a path asks for, with the head and the body of its message
 abbrev pub ask_of : Asked → Ask
 ask_of (asked.Request request) parsed body = request
-ask_of asked.Deposit parsed body = ask.Deposit parsed.member parsed.token body
-ask_of (asked.Census deposit n limit) parsed body = ask.Census parsed.member parsed.token deposit n limit
-ask_of (asked.Total rule code limit) parsed body = ask.Total rule code limit
+ask_of asked.Deposit parsed body = requests.Deposit parsed.member parsed.token body
+ask_of (asked.Census deposit n limit) parsed body = requests.Census parsed.member parsed.token deposit n limit
+ask_of (asked.Total rule code limit) parsed body = requests.Total rule code limit
 
 abbrev pub found_of : Method × Asked → Found
 found_of found = (found.0, ask_of found.1)

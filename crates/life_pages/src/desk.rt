@@ -2,7 +2,7 @@
 ghost use Rattle.std.specs.Prelude.{◌≡◌, true};
 ghost use Rattle.life_desk.specs.declared.request.Request.{Request};
 ghost use Rattle.life_desk.specs.declared.request.Reply.{Reply};
-ghost use Rattle.life_desk.specs.declared.request.Reply.TheVariants as says;
+ghost use Rattle.life_desk.specs.declared.request.Reply.TheVariants as replies;
 ghost use Rattle.life_desk.specs.declared.refusal.Refusal.{Refusal};
 ghost use Rattle.life_desk.specs.declared.refusal.Refusal.TheVariants as refusals;
 ghost use Rattle.life_desk.specs.Validation.{validated, MayRefuse};
@@ -20,10 +20,10 @@ pub(crate) trait Desk {
     fn answer(&mut self, alloc: Global, request: Request) -> Reply
         ensures answered { answers self.old request result self.new }
         // What is shown may be withheld: nothing has changed, and that it is unavailable is a reply too.
-        ensures may_be_unavailable { is_shown result ≡ true → answers self.old request (says.Refused refusals.Unavailable) self.new };
+        ensures may_be_unavailable { is_shown result ≡ true → answers self.old request (replies.Refused refusals.Unavailable) self.new };
 
     /// A request may be refused unasked: for its own fields or, if these are valid, as unavailable. A law: calling it does
     /// nothing.
     fn law_of_refusals(&self)
-        ensures { (request : Request) (refusal : Refusal) → MayRefuse (validated request) refusal → answers self.now request (says.Refused refusal) self.now };
+        ensures { (request : Request) (refusal : Refusal) → MayRefuse (validated request) refusal → answers self.now request (replies.Refused refusal) self.now };
 }

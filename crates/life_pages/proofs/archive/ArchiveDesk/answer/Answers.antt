@@ -1,4 +1,4 @@
-use Rattle.life_desk.specs.declared.request.Reply.TheVariants as says
+use Rattle.life_desk.specs.declared.request.Reply.TheVariants as replies
 use Rattle.life_desk.specs.declared.refusal.Refusal.TheVariants as refusals
 use Rattle.life_desk.specs.Validation.{validated}
 use Rattle.life_pages.specs.Archive.{StoreAnswers}
@@ -10,5 +10,5 @@ unfolding StoreAnswers
 returns-clause-may_be_unavailable g c = λ shown. (
   c.answer.ensures.may_be_unavailable shown,
   shown_not_refused (validated c.args.request) c.answer.result
-      (says.Refused refusals.Unavailable) _ shown c.answer.ensures.own_refusals,
+      (replies.Refused refusals.Unavailable) _ shown c.answer.ensures.own_refusals,
 )

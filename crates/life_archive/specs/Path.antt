@@ -29,7 +29,7 @@ use Rattle.life_desk.specs.declared.request.Request.TheVariants as requests
 use Rattle.life_desk.specs.declared.request.Reply.{Reply}
 use Rattle.life_desk.specs.Replies.{after}
 use Rattle.life_desk.specs.Archive.{Archive}
-use Rattle.life_desk.specs.Run.{RequestStep, RequestRun, IsCrashSafe, IsDurable, PromiseNothing}
+use Rattle.life_desk.specs.Run.{RequestStep, RequestRun, IsCrashSafe, IsDurable, AcknowledgeNothing}
 use Rattle.life_archive.specs.declared.stop.ArchiveStop.{ArchiveStop}
 use Rattle.life_archive.specs.declared.stop.ArchiveStop.TheVariants.{Job, NotOurs}
 use Rattle.life_archive.specs.Stop.{line_of}
@@ -241,7 +241,7 @@ pub record IsLeftOfRun (A : Archive) (qs : List Request) (rs : List Reply) (Rema
   pub mid : Archive
   pub run : RequestRun A front given mid
   pub left : Remains mid ⊎ ((next : Request) × (more : List Request) × (back ≡ next ∷ more) × Remains (after mid next))
-  pub unpromised : PromiseNothing rest
+  pub unpromised : AcknowledgeNothing rest
 
 -- what is left of a deposit that a crash cut off, by what was asked
 abbrev pub IsLeftIfAsked : {S : Type 0} {g : Ghosts S} {old new : ArchiveView S} {member token : List ℕ}

@@ -23,7 +23,7 @@ use Rattle.life_desk.specs.Replies.{has_room, is_same_deposit, deposit_of_file, 
 use Rattle.life_desk.specs.Replies.{is_same_census, census_of_deposit, census_verdict, with_census, IsReply, after}
 use Rattle.life_desk.specs.Replies.{census_asked, after_by}
 use Rattle.life_desk.specs.Represents.{EachHasDeposit, IsReadAgain, EachIsReadAgain, IsRepresentable}
-use Rattle.life_desk.specs.Run.{RequestStep, answers, gives_up, RequestRun, IsAnswered, IsLater}
+use Rattle.life_desk.specs.Run.{RequestStep, answers, unavailable, RequestRun, IsAnswered, IsLater}
 use Rattle.life_desk.proofs.Representing.{each_longer}
 use Rattle.life_desk.proofs.LaterArchives.{later_same, later_later}
 use Rattle.life_desk.proofs.Submissions.{after_longer, all_after}
@@ -71,7 +71,7 @@ after_later A w =
 
 pub step_later : (A : Archive) (q : Request) (r : Reply) (B : Archive) → RequestStep A q r B → IsLater A B
 step_later A q r B (answers s is) = after_later A (validated q)
-step_later A q r B (gives_up is) = later_same A
+step_later A q r B (unavailable is) = later_same A
 
 pub run_later : (A B : Archive) (qs : List Request) (rs : List Reply) → RequestRun A qs rs B → IsLater A B
 run_later A B [] [] run = subst (λ X. IsLater A X) (sym run) (later_same A)
@@ -123,13 +123,13 @@ after_each A w each =
 pub step_each : (A : Archive) (q : Request) (r : Reply) (B : Archive) → RequestStep A q r B
     → EachHasDeposit A.deposits A.censuses → EachHasDeposit B.deposits B.censuses
 step_each A q r B (answers s is) each = after_each A (validated q) each
-step_each A q r B (gives_up is) each = each
+step_each A q r B (unavailable is) each = each
 
 step_representable : (A : Archive) (q : Request) (r : Reply) (B : Archive) → RequestStep A q r B
     → IsRepresentable A → IsRepresentable B
 step_representable A q r B (answers s is) can =
     record { again = after_again A (validated q) can.again; each = after_each A (validated q) can.each }
-step_representable A q r B (gives_up is) can = can
+step_representable A q r B (unavailable is) can = can
 
 -- the deposit of a census that is kept
 get_each : (ds : List Deposit) (cs : List Census) (i : ℕ) (c : Census) → EachHasDeposit ds cs
@@ -199,4 +199,4 @@ moment A B (p ∷ qs) [] q r can run answered = absurd answered
 pub step_answers : (A : Archive) (q : Request) (r : Reply) (B : Archive) → RequestStep A q r B
     → r ≢ replies.Refused refusals.Unavailable → IsReply A q r × (B ≡ after A q)
 step_answers A q r B (answers s is) other = (is, refl)
-step_answers A q r B (gives_up is) other = absurd (other refl)
+step_answers A q r B (unavailable is) other = absurd (other refl)

@@ -15,16 +15,16 @@ use Rattle.life_desk.specs.Replies.{acknowledges}
 
 -- what a call leaves, if the database is healthy after it and the tables represented an archive:
 -- this reply and this archive, or Err and the same archive
-abbrev pub Acts : {S : Type 0} → ArchiveView S → ArchiveView S → Result Reply Unavailable → (Archive → Reply → Type 0)
+abbrev pub Effect : {S : Type 0} → ArchiveView S → ArchiveView S → Result Reply Unavailable → (Archive → Reply → Type 0)
     → (Archive → Archive) → Type 0
-Acts old new result gives leaves =
+Effect old new result gives leaves =
     (A : Archive) → IsTrue new.tables.is_healthy → Represents old A
     → MatchResult result (λ r. gives A r × Represents new (leaves A)) (λ _. Represents new A)
 
 -- the same, if this holds of the archive
-abbrev pub ActsIf : {S : Type 0} → ArchiveView S → ArchiveView S → Result Reply Unavailable
+abbrev pub EffectIf : {S : Type 0} → ArchiveView S → ArchiveView S → Result Reply Unavailable
     → (Archive → Type 0) → (Archive → Reply → Type 0) → (Archive → Archive) → Type 0
-ActsIf old new result where_this gives leaves =
+EffectIf old new result where_this gives leaves =
     (A : Archive) → IsTrue new.tables.is_healthy → Represents old A → where_this A
     → MatchResult result (λ r. gives A r × Represents new (leaves A)) (λ _. Represents new A)
 
@@ -33,9 +33,9 @@ abbrev pub IsGivenByAll : (Archive → Reply → Type 0) → (Archive → Archiv
 IsGivenByAll gives leaves r = (A : Archive) → gives A r × (leaves A ≡ A)
 
 -- the answer came from a database that is healthy unless its disk has lied, or does not depend on what is stored
-abbrev pub SpeaksIfHealthy : {S : Type 0} → Ghosts S → ArchiveView S → Result Reply Unavailable
+abbrev pub AnswersOnlyIfHealthy : {S : Type 0} → Ghosts S → ArchiveView S → Result Reply Unavailable
     → (Archive → Reply → Type 0) → (Archive → Archive) → Type 0
-SpeaksIfHealthy g new result gives leaves = IfOk result (λ r. IsHealthyIfClean g new ⊎ IsGivenByAll gives leaves r)
+AnswersOnlyIfHealthy g new result gives leaves = IfOk result (λ r. IsHealthyIfClean g new ⊎ IsGivenByAll gives leaves r)
 
 -- ---- what a crash may leave of such a call
 
@@ -52,8 +52,8 @@ abbrev pub RepresentChanged : {S : Type 0} → ArchiveView S → (Archive → Ar
 RepresentChanged old change found = RepresentChangedIf old (λ A. Unit {0}) change found
 
 -- what is acknowledged was done by a database that is healthy, unless its disk has lied
-abbrev pub Promises : {S : Type 0} → Ghosts S → ArchiveView S → Result Reply Unavailable → Type 0
-Promises g new result = IfOk result (λ r. acknowledges r ≡ true → IsHealthyIfClean g new)
+abbrev pub AcknowledgesOnlyIfHealthy : {S : Type 0} → Ghosts S → ArchiveView S → Result Reply Unavailable → Type 0
+AcknowledgesOnlyIfHealthy g new result = IfOk result (λ r. acknowledges r ≡ true → IsHealthyIfClean g new)
 
 -- ---- censuses
 
@@ -66,9 +66,9 @@ reused_reply (Some d) = replies.Refused refusals.TokenReused
 
 -- A crash leaves what it might have left before, the database that answers is healthy unless its disk has lied, and the
 -- reply is this one, while the archive stays.
-pub record OnlyShows {S : Type 0} (g : Ghosts S) (old new : ArchiveView S) (result : Result Reply Unavailable)
+pub record ReadOnly {S : Type 0} (g : Ghosts S) (old new : ArchiveView S) (result : Result Reply Unavailable)
     (gives : Archive → Reply → Type 0) : Type 0 where
   pub transition : IsTransition g NothingNew old new
-  pub promised : Promises g new result
+  pub promised : AcknowledgesOnlyIfHealthy g new result
   pub healthy : OnOk result (IsHealthyIfClean g new)
-  pub effect : Acts old new result gives (λ A. A)
+  pub effect : Effect old new result gives (λ A. A)

@@ -19,11 +19,11 @@ use Rattle.life_desk.specs.Represents.{Represents, RecoveredRepresents}
 -- one request: its reply and its change; or, if its own fields are valid, it is unavailable and nothing changes
 pub data RequestStep (A : Archive) (q : Request) : Reply → Archive → Type 0 where
   answers : (r : Reply) → IsReply A q r → RequestStep A q r (after A q)
-  gives_up : IsOk (validated q) → RequestStep A q (replies.Refused refusals.Unavailable) A
+  unavailable : IsOk (validated q) → RequestStep A q (replies.Refused refusals.Unavailable) A
 
 -- Every archive may give this reply, and stays unchanged: the reply says nothing about what is stored.
-abbrev pub IsIdle : Request → Reply → Type 0
-IsIdle q r = (A : Archive) → RequestStep A q r A
+abbrev pub IsStateless : Request → Reply → Type 0
+IsStateless q r = (A : Archive) → RequestStep A q r A
 
 -- the requests, one after the other, each with its reply: from A to B
 abbrev pub RequestRun : Archive → List Request → List Reply → Archive → Type 0
@@ -47,8 +47,8 @@ pub record IsLater (A B : Archive) : Type 0 where
   pub capacity : B.capacity ≡ A.capacity
 
 -- no reply says that something is stored
-abbrev pub PromiseNothing : List Reply → Type 0
-PromiseNothing rs = AllByRecursion (λ r. acknowledges r ≡ false) rs
+abbrev pub AcknowledgeNothing : List Reply → Type 0
+AcknowledgeNothing rs = AllByRecursion (λ r. acknowledges r ≡ false) rs
 
 -- The trees represent the archive after the first requests of a run from A, or after one request more; and only the
 -- replies to the first requests say that something is stored.
@@ -63,14 +63,14 @@ pub record IsCrashOf (A : Archive) (qs : List Request) (rs : List Reply) (found 
   pub run : RequestRun A front given mid
   pub left : RecoveredRepresents found mid
       ⊎ ((next : Request) × (more : List Request) × (back ≡ next ∷ more) × RecoveredRepresents found (after mid next))
-  pub unpromised : PromiseNothing rest
+  pub unpromised : AcknowledgeNothing rest
 
 -- What a crash may leave of requests: what it might have left before them, if no reply says that something is stored;
 -- or the database was healthy, and the trees are what a crash leaves of a run from any archive that its tables
 -- represented.
 abbrev pub MayBeRecoveredOf : {S : Type 0} → Ghosts S → ArchiveView S → List Request → List Reply → Recoverable → Type 0
 MayBeRecoveredOf g old qs rs found =
-    (MayBeRecovered g old found × PromiseNothing rs)
+    (MayBeRecovered g old found × AcknowledgeNothing rs)
     ⊎ (IsTrue old.tables.is_healthy × ((A : Archive) → Represents old A → IsCrashOf A qs rs found))
 
 -- The requests were answered by the store. If the database is healthy at the end, it was healthy at the start, and from

@@ -13,9 +13,9 @@ ghost use Rattle.life_core.specs.RuleText.{read_rule};
 ghost use Rattle.life_code.specs.Codes as codes;
 ghost use Rattle.life_code.specs.Period as periods;
 ghost use Rattle.life_desk.specs.Validation.{validated, IsGood};
-ghost use Rattle.life_desk.specs.DeskState.{Acts, ActsIf, OnlyShows, RepresentChanged, RepresentChangedIf, Promises, SpeaksIfHealthy, reused_reply};
+ghost use Rattle.life_desk.specs.DeskState.{Effect, EffectIf, ReadOnly, RepresentChanged, RepresentChangedIf, AcknowledgesOnlyIfHealthy, AnswersOnlyIfHealthy, reused_reply};
 ghost use Rattle.life_desk.specs.Headline.{IsTheArchive, IsTheArchiveOrFaults, IsTheArchiveInMemory};
-ghost use Rattle.life_desk.specs.Run.{Answered, IsIdle, IsCrashSafe};
+ghost use Rattle.life_desk.specs.Run.{Answered, IsStateless, IsCrashSafe};
 ghost use Rattle.life_desk.specs.Archive.{tally_for, tally_at, tally_of_cells, steady_for};
 ghost use Rattle.life_rle.specs.Writer.{text};
 ghost use Rattle.life_census.specs.Steady.{is_steady};
@@ -66,9 +66,9 @@ fn keep_new<S: Alter>(
 ) -> Result<Reply, Unavailable>
     requires { IsInside 1024 deposit.now.content.cells }
     ensures transition { IsTransition S.Store (RepresentChanged archive.old (λ A. with_deposit A (deposit_by_token A deposit.now None))) archive.old archive.new }
-    ensures promised { Promises S.Store archive.new result }
+    ensures promised { AcknowledgesOnlyIfHealthy S.Store archive.new result }
     ensures healthy { OnOk result (IsHealthyIfClean S.Store archive.new) }
-    ensures effect { Acts archive.old archive.new result
+    ensures effect { Effect archive.old archive.new result
         (λ A r. r ≡ deposit_reply A (deposit_by_token A deposit.now None))
         (λ A. with_deposit A (deposit_by_token A deposit.now None)) }
 {
@@ -86,9 +86,9 @@ fn keep_deposit<S: Alter>(
 ) -> Result<Reply, Unavailable>
     requires { IsInside 1024 deposit.now.content.cells }
     ensures transition { IsTransition S.Store (RepresentChanged archive.old (λ A. with_deposit A (deposit_by_token A deposit.now (deposit_by deposit.now.member deposit.now.token A.deposits)))) archive.old archive.new }
-    ensures promised { Promises S.Store archive.new result }
+    ensures promised { AcknowledgesOnlyIfHealthy S.Store archive.new result }
     ensures healthy { OnOk result (IsHealthyIfClean S.Store archive.new) }
-    ensures effect { Acts archive.old archive.new result
+    ensures effect { Effect archive.old archive.new result
         (λ A r. r ≡ deposit_reply A (deposit_by_token A deposit.now (deposit_by deposit.now.member deposit.now.token A.deposits)))
         (λ A. with_deposit A (deposit_by_token A deposit.now (deposit_by deposit.now.member deposit.now.token A.deposits))) }
 {
@@ -107,9 +107,9 @@ fn deposit<S: Alter>(
     file: Bytes,
 ) -> Result<Reply, Unavailable>
     ensures transition { IsTransition S.Store (RepresentChanged archive.old (λ A. with_deposit A (deposit_verdict A member token file))) archive.old archive.new }
-    ensures promised { Promises S.Store archive.new result }
-    ensures healthy { SpeaksIfHealthy S.Store archive.new result (λ A r. r ≡ deposit_reply A (deposit_verdict A member token file)) (λ A. with_deposit A (deposit_verdict A member token file)) }
-    ensures effect { Acts archive.old archive.new result
+    ensures promised { AcknowledgesOnlyIfHealthy S.Store archive.new result }
+    ensures healthy { AnswersOnlyIfHealthy S.Store archive.new result (λ A r. r ≡ deposit_reply A (deposit_verdict A member token file)) (λ A. with_deposit A (deposit_verdict A member token file)) }
+    ensures effect { Effect archive.old archive.new result
         (λ A r. r ≡ deposit_reply A (deposit_verdict A member token file))
         (λ A. with_deposit A (deposit_verdict A member token file)) }
 {
@@ -130,7 +130,7 @@ fn deposit<S: Alter>(
 
 /// Answers with the file of a deposit.
 fn show<S: Alter>(archive: &mut Archive<S>, alloc: Global, id: u64) -> Result<Reply, Unavailable>
-    ensures { OnlyShows S.Store archive.old archive.new result (λ A r. r ≡ file_reply (numbered A.deposits id)) }
+    ensures { ReadOnly S.Store archive.old archive.new result (λ A r. r ≡ file_reply (numbered A.deposits id)) }
 {
     match file_of(archive, alloc, id)? {
         None => Ok(Reply::Refused(Refusal::NoSuchDeposit)),
@@ -144,7 +144,7 @@ fn list_after<S: Alter>(
     alloc: Global,
     id: u64,
 ) -> Result<Reply, Unavailable>
-    ensures { OnlyShows S.Store archive.old archive.new result (λ A r. r ≡ replies.Deposits (listed_after id A.deposits)) }
+    ensures { ReadOnly S.Store archive.old archive.new result (λ A r. r ≡ replies.Deposits (listed_after id A.deposits)) }
 {
     Ok(Reply::Deposits(deposits_after(archive, alloc, id)?))
 }
@@ -169,7 +169,7 @@ fn show_at<S: Alter>(
     n: u32,
 ) -> Result<Reply, Unavailable>
     requires { n ≤ GENERATION_LIMIT }
-    ensures { OnlyShows S.Store archive.old archive.new result (λ A r. r ≡ at_reply n (numbered A.deposits id)) }
+    ensures { ReadOnly S.Store archive.old archive.new result (λ A r. r ≡ at_reply n (numbered A.deposits id)) }
 {
     match deposit_of(archive, alloc, id)? {
         None => Ok(Reply::Refused(Refusal::NoSuchDeposit)),
@@ -218,7 +218,7 @@ fn name_kind<S: Alter>(
 ) -> Result<Reply, Unavailable>
     requires some { 1 ≤ limit }
     requires few { limit ≤ PERIOD_LIMIT }
-    ensures { OnlyShows S.Store archive.old archive.new result (λ A r. r ≡ kind_reply limit (numbered A.deposits id)) }
+    ensures { ReadOnly S.Store archive.old archive.new result (λ A r. r ≡ kind_reply limit (numbered A.deposits id)) }
 {
     match deposit_of(archive, alloc, id)? {
         None => Ok(Reply::Refused(Refusal::NoSuchDeposit)),
@@ -238,9 +238,9 @@ fn add_counted<S: Alter>(
     requires some { 1 ≤ census.now.limit }
     requires short { census.now.limit ≤ PERIOD_LIMIT }
     ensures transition { IsTransition S.Store (RepresentChangedIf archive.old (λ A. numbered A.deposits census.now.deposit ≡ Some deposit.now) (λ A. with_census A (Adds census.now))) archive.old archive.new }
-    ensures promised { Promises S.Store archive.new result }
+    ensures promised { AcknowledgesOnlyIfHealthy S.Store archive.new result }
     ensures healthy { OnOk result (IsHealthyIfClean S.Store archive.new) }
-    ensures effect { ActsIf archive.old archive.new result
+    ensures effect { EffectIf archive.old archive.new result
         (λ A. numbered A.deposits census.now.deposit ≡ Some deposit.now)
         (λ A r. r ≡ census_reply A (Adds census.now))
         (λ A. with_census A (Adds census.now)) }
@@ -261,9 +261,9 @@ fn count_new<S: Alter>(
     requires some { 1 ≤ census.now.limit }
     requires short { census.now.limit ≤ PERIOD_LIMIT }
     ensures transition { IsTransition S.Store (RepresentChangedIf archive.old (λ A. numbered A.deposits census.now.deposit ≡ Some deposit.now) (λ A. with_census A (census_by_token A census.now None))) archive.old archive.new }
-    ensures promised { Promises S.Store archive.new result }
+    ensures promised { AcknowledgesOnlyIfHealthy S.Store archive.new result }
     ensures healthy { OnOk result (IsHealthyIfClean S.Store archive.new) }
-    ensures effect { ActsIf archive.old archive.new result
+    ensures effect { EffectIf archive.old archive.new result
         (λ A. numbered A.deposits census.now.deposit ≡ Some deposit.now)
         (λ A r. r ≡ census_reply A (census_by_token A census.now None))
         (λ A. with_census A (census_by_token A census.now None)) }
@@ -284,9 +284,9 @@ fn keep_census<S: Alter>(
     requires some { 1 ≤ census.now.limit }
     requires short { census.now.limit ≤ PERIOD_LIMIT }
     ensures transition { IsTransition S.Store (RepresentChangedIf archive.old (λ A. None ≡ census_by census.now.member census.now.token A.censuses) (λ A. with_census A (census_verdict A census.now))) archive.old archive.new }
-    ensures promised { Promises S.Store archive.new result }
+    ensures promised { AcknowledgesOnlyIfHealthy S.Store archive.new result }
     ensures healthy { OnOk result (IsHealthyIfClean S.Store archive.new) }
-    ensures effect { ActsIf archive.old archive.new result
+    ensures effect { EffectIf archive.old archive.new result
         (λ A. None ≡ census_by census.now.member census.now.token A.censuses)
         (λ A r. r ≡ census_reply A (census_verdict A census.now))
         (λ A. with_census A (census_verdict A census.now)) }
@@ -299,7 +299,7 @@ fn keep_census<S: Alter>(
 
 /// Refuses a census whose token is used by another census.
 fn refuse_reused<S: Alter>(archive: &mut Archive<S>, census: &Census) -> Result<Reply, Unavailable>
-    ensures { OnlyShows S.Store archive.old archive.new result (λ A r. r ≡ reused_reply (numbered A.deposits census.now.deposit)) }
+    ensures { ReadOnly S.Store archive.old archive.new result (λ A r. r ≡ reused_reply (numbered A.deposits census.now.deposit)) }
 {
     if has_deposit(archive, census.deposit)? {
         return Ok(Reply::Refused(Refusal::TokenReused));
@@ -324,9 +324,9 @@ fn take_census<S: Alter>(
     requires some { 1 ≤ census.now.limit }
     requires short { census.now.limit ≤ PERIOD_LIMIT }
     ensures transition { IsTransition S.Store (RepresentChanged archive.old (λ A. with_census A (census_verdict A census.now))) archive.old archive.new }
-    ensures promised { Promises S.Store archive.new result }
+    ensures promised { AcknowledgesOnlyIfHealthy S.Store archive.new result }
     ensures healthy { OnOk result (IsHealthyIfClean S.Store archive.new) }
-    ensures effect { Acts archive.old archive.new result
+    ensures effect { Effect archive.old archive.new result
         (λ A r. r ≡ census_reply A (census_verdict A census.now))
         (λ A. with_census A (census_verdict A census.now)) }
 {
@@ -347,7 +347,7 @@ fn show_census<S: Alter>(
     alloc: Global,
     id: u64,
 ) -> Result<Reply, Unavailable>
-    ensures { OnlyShows S.Store archive.old archive.new result (λ A r. r ≡ shown_reply A.deposits id (numbered A.censuses id)) }
+    ensures { ReadOnly S.Store archive.old archive.new result (λ A r. r ≡ shown_reply A.deposits id (numbered A.censuses id)) }
 {
     match counted_census(archive, alloc, id)? {
         None => Ok(Reply::Refused(Refusal::NoSuchCensus)),
@@ -375,7 +375,7 @@ fn census_csv<S: Alter>(
     alloc: Global,
     id: u64,
 ) -> Result<Reply, Unavailable>
-    ensures { OnlyShows S.Store archive.old archive.new result (λ A r. r ≡ csv_reply A.deposits (numbered A.censuses id)) }
+    ensures { ReadOnly S.Store archive.old archive.new result (λ A r. r ≡ csv_reply A.deposits (numbered A.censuses id)) }
 {
     match counted_census(archive, alloc, id)? {
         None => Ok(Reply::Refused(Refusal::NoSuchCensus)),
@@ -394,9 +394,9 @@ fn total<S: Alter>(
     requires some { 1 ≤ limit }
     requires few { limit ≤ PERIOD_LIMIT }
     ensures transition { IsTransition S.Store NothingNew archive.old archive.new }
-    ensures promised { Promises S.Store archive.new result }
-    ensures healthy { SpeaksIfHealthy S.Store archive.new result (λ A r. IsTotal A rule.now text.now limit r) (λ A. A) }
-    ensures effect { Acts archive.old archive.new result (λ A r. IsTotal A rule.now text.now limit r) (λ A. A) }
+    ensures promised { AcknowledgesOnlyIfHealthy S.Store archive.new result }
+    ensures healthy { AnswersOnlyIfHealthy S.Store archive.new result (λ A r. IsTotal A rule.now text.now limit r) (λ A. A) }
+    ensures effect { Effect archive.old archive.new result (λ A r. IsTotal A rule.now text.now limit r) (λ A. A) }
 {
     match open_code(alloc, rule, text, limit) {
         Ok(_) => {}
@@ -417,9 +417,9 @@ fn total_under<S: Alter>(
     requires some { 1 ≤ limit }
     requires few { limit ≤ PERIOD_LIMIT }
     ensures transition { IsTransition S.Store NothingNew archive.old archive.new }
-    ensures promised { Promises S.Store archive.new result }
-    ensures healthy { SpeaksIfHealthy S.Store archive.new result (λ A r. IsTotalUnder A (read_rule rule.now) text.now limit r) (λ A. A) }
-    ensures effect { Acts archive.old archive.new result (λ A r. IsTotalUnder A (read_rule rule.now) text.now limit r) (λ A. A) }
+    ensures promised { AcknowledgesOnlyIfHealthy S.Store archive.new result }
+    ensures healthy { AnswersOnlyIfHealthy S.Store archive.new result (λ A r. IsTotalUnder A (read_rule rule.now) text.now limit r) (λ A. A) }
+    ensures effect { Effect archive.old archive.new result (λ A r. IsTotalUnder A (read_rule rule.now) text.now limit r) (λ A. A) }
 {
     match Rule::read(rule) {
         Ok(rule) => total(archive, alloc, &rule, text, limit),
@@ -435,9 +435,9 @@ fn act<S: Alter>(
 ) -> Result<Reply, Unavailable>
     requires { IsGood request }
     ensures transition { IsTransition S.Store (RepresentChanged archive.old (λ A. after_all_of A request)) archive.old archive.new }
-    ensures promised { Promises S.Store archive.new result }
-    ensures healthy { SpeaksIfHealthy S.Store archive.new result (λ A r. IsReplyTo A request r) (λ A. after_all_of A request) }
-    ensures effect { Acts archive.old archive.new result (λ A r. IsReplyTo A request r) (λ A. after_all_of A request) }
+    ensures promised { AcknowledgesOnlyIfHealthy S.Store archive.new result }
+    ensures healthy { AnswersOnlyIfHealthy S.Store archive.new result (λ A r. IsReplyTo A request r) (λ A. after_all_of A request) }
+    ensures effect { Effect archive.old archive.new result (λ A r. IsReplyTo A request r) (λ A. after_all_of A request) }
 {
     match request {
         Request::Deposit {
@@ -485,7 +485,7 @@ fn act<S: Alter>(
 pub fn answer<S: Alter>(archive: &mut Archive<S>, alloc: Global, request: Request) -> Reply
     ensures answered { Answered S.Store archive.old archive.new (request ∷ []) (result ∷ []) }
     // If the database is not healthy, no reply says anything about what is stored, unless its disk has lied.
-    ensures healthy { IsHealthyIfClean S.Store archive.new ⊎ IsIdle request result }
+    ensures healthy { IsHealthyIfClean S.Store archive.new ⊎ IsStateless request result }
     // If the reply shows what is stored, nothing has changed, and it might have been unavailable instead.
     ensures may_be_unavailable { is_shown result ≡ true → Answered S.Store archive.old archive.new (request ∷ []) (replies.Refused refusals.Unavailable ∷ []) }
     // A crash during the call leaves the archive as it was before the request or after it.

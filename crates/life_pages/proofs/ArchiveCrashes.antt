@@ -7,37 +7,37 @@ use Rattle.life_desk.specs.declared.request.Reply.{Reply}
 use Rattle.life_desk.specs.Archive.{Archive}
 use Rattle.life_desk.specs.Represents.{RecoveredRepresents}
 use Rattle.life_desk.specs.Replies.{after}
-use Rattle.life_desk.specs.Run.{RequestStep, RequestRun, IsCrashOf, PromiseNothing}
+use Rattle.life_desk.specs.Run.{RequestStep, RequestRun, IsCrashOf, AcknowledgeNothing}
 use Rattle.life_pages.specs.declared.fault.MessageRefusal.{MessageRefusal}
 use Rattle.life_pages.specs.Head.{Head}
 use Rattle.life_pages.specs.Asked.{asked}
 use Rattle.life_pages.specs.Message.{Message, good, bad, AnswersAsked, AnswersMessage}
 use Rattle.life_pages.specs.Reply.{bytes_of, bad_bytes}
-use Rattle.life_pages.specs.Archive.{SaysNothing, SayNothing, IsServedUntil}
+use Rattle.life_pages.specs.Archive.{AcknowledgesNothing, RepliesAcknowledgeNothing, IsServedUntil}
 
 -- What a crash leaves of one message whose request is x and whose reply is these bytes: the archive after it; or, if
 -- the bytes say nothing of what is kept, the one before it or the one after its request.
 abbrev pub LeftOfOne : Archive → Result Request MessageRefusal → List ℕ → Trees → Type 0
 LeftOfOne A x bytes db =
     ((B : Archive) × AnswersAsked RequestStep A x bytes B × RecoveredRepresents db B)
-    ⊎ (SaysNothing bytes × (RecoveredRepresents db A
+    ⊎ (AcknowledgesNothing bytes × (RecoveredRepresents db A
     ⊎ ((next : Request) × (x ≡ Ok next) × RecoveredRepresents db (after A next))))
 
 module _ (A : Archive) (q : Request) (r : Reply) (bytes : List ℕ) (made : bytes ≡ bytes_of r) (db : Trees) where
-  says_nothing : PromiseNothing (r ∷ []) → SaysNothing bytes
+  says_nothing : AcknowledgeNothing (r ∷ []) → AcknowledgesNothing bytes
   says_nothing none = inl (r, none.0, made)
 
   of_parts : (front back : List Request) (given rest : List Reply) (mid : Archive) → q ∷ [] ≡ front ++ back
       → r ∷ [] ≡ given ++ rest → RequestRun A front given mid
       → RecoveredRepresents db mid ⊎ ((next : Request) × (more : List Request) × (back ≡ next ∷ more)
-      × RecoveredRepresents db (after mid next)) → PromiseNothing rest → LeftOfOne A (Ok q) bytes db
+      × RecoveredRepresents db (after mid next)) → AcknowledgeNothing rest → LeftOfOne A (Ok q) bytes db
   of_parts [] back [] rest mid e f run (inl mean) none =
-      inr (says_nothing (subst PromiseNothing (sym f) none), inl (subst (λ X. RecoveredRepresents db X) run mean))
+      inr (says_nothing (subst AcknowledgeNothing (sym f) none), inl (subst (λ X. RecoveredRepresents db X) run mean))
   of_parts [] back [] rest mid e f run (inr (next, more, is, mean)) none =
       let both = e ∙ is in
       let same : q ≡ next = cc in
       inr (
-        says_nothing (subst PromiseNothing (sym f) none),
+        says_nothing (subst AcknowledgeNothing (sym f) none),
         inr (next, ap Ok same, subst (λ X. RecoveredRepresents db (after X next)) run mean),
       )
   of_parts [] back (s ∷ given) rest mid e f run left none = absurd run
@@ -65,7 +65,7 @@ module _ (A : Archive) (q : Request) (r : Reply) (bytes : List ℕ) (made : byte
 -- ---- messages
 
 -- nothing was answered
-pub until_begun : (A : Archive) (ms : List Message) (bytes : List ℕ) (db : Trees) → SayNothing ms bytes
+pub until_begun : (A : Archive) (ms : List Message) (bytes : List ℕ) (db : Trees) → RepliesAcknowledgeNothing ms bytes
     → RecoveredRepresents db A → IsServedUntil A ms bytes db
 until_begun A ms bytes db none mean = record {
   front = [];
@@ -100,7 +100,7 @@ module _ (A : Archive) where
 
   -- the first was being answered, and nothing after it says that something is kept
   pub until_first : (parsed : Head) (body : List ℕ) (ms : List Message) (reply later bytes : List ℕ) (db : Trees)
-      → bytes ≡ reply ++ later → SayNothing ms later → LeftOfOne A (asked parsed body) reply db
+      → bytes ≡ reply ++ later → RepliesAcknowledgeNothing ms later → LeftOfOne A (asked parsed body) reply db
       → IsServedUntil A (good parsed body ∷ ms) bytes db
   until_first parsed body ms reply later bytes db is none (inl (B, answered, mean)) =
       until_after_good B parsed body ms reply later bytes db answered is (until_begun B ms later db none mean)

@@ -18,8 +18,8 @@ use crate::rows::{
 };
 use crate::walk::{FoundCensuses, begin, get, next};
 use crate::watch::Watch;
-use life_census::Row as Counted;
-use life_desk::counted;
+use life_census::Row as TallyRow;
+use life_desk::tally_of_generation;
 use life_store::{Census, Deposit, Unavailable};
 use sqlite::Alter;
 use sqlite_value::row::Row;
@@ -96,7 +96,7 @@ fn rows_follow<S: Alter>(
     store: &mut S,
     alloc: Global,
     id: u64,
-    rows: &[Counted],
+    rows: &[TallyRow],
     before: u64,
 ) -> Result<Option<u64>, Unavailable>
     requires { IsSome ((S.Store.view store.old).cursors 1) }
@@ -253,7 +253,7 @@ fn counted_follows<S: Alter>(
     let Some(deposit) = deposit_from(store, alloc, census.deposit, last.take())? else {
         return Ok(None);
     };
-    let (tally, steady) = counted(alloc, &deposit, census)?;
+    let (tally, steady) = tally_of_generation(alloc, &deposit, census)?;
     if !is_of_census(alloc, row, id, census, tally.total, tally.unresolved)? {
         return Ok(None);
     }

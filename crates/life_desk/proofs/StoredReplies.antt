@@ -12,7 +12,7 @@ use Rattle.life_store.specs.Tables.{ArchiveView}
 use Rattle.life_desk.specs.declared.refusal.Refusal.TheVariants as refusals
 use Rattle.life_desk.specs.declared.request.Reply.{Reply}
 use Rattle.life_desk.specs.declared.request.Reply.TheVariants as replies
-use Rattle.life_desk.specs.declared.lookups.CountedCensus.{CountedCensus}
+use Rattle.life_desk.specs.declared.lookups.CensusWithTally.{CensusWithTally}
 use Rattle.life_desk.specs.Archive.{Archive, tally_at, steady_at}
 use Rattle.life_desk.specs.Represents.{Represents}
 use Rattle.life_desk.specs.Submission.{Repeats, Refuses}
@@ -61,22 +61,22 @@ no_file (Some stored) is = absurd cc
 -- ---- tallies
 
 abbrev Found : Type 0
-Found = Option CountedCensus
+Found = Option CensusWithTally
 
 -- the census as it is counted
-abbrev pub counted_at : List Deposit → Census → CountedCensus
+abbrev pub counted_at : List Deposit → Census → CensusWithTally
 counted_at ds c = record { census = c; tally = tally_at ds c; steady = steady_at ds c }
 
-tally_told : (ds : List Deposit) (o : Option Census) (counted : CountedCensus) (found : Found)
+tally_told : (ds : List Deposit) (o : Option Census) (counted : CensusWithTally) (found : Found)
     → found ≡ Some counted → found ≡ option_map (counted_at ds) o
     → replies.Csv (csv_text counted.tally) ≡ csv_reply ds o
 tally_told ds None counted found is tells = absurd cc
 tally_told ds (Some x) counted found is tells =
     let same : counted ≡ counted_at ds x = cc in
-    ap (λ (k : CountedCensus). replies.Csv (csv_text k.tally)) same
+    ap (λ (k : CensusWithTally). replies.Csv (csv_text k.tally)) same
 
 -- the reply with the tally as CSV
-pub csv_told : {E M : Type 0} → (ds : List Deposit) (o : Option Census) (found : Found) (counted : CountedCensus)
+pub csv_told : {E M : Type 0} → (ds : List Deposit) (o : Option Census) (found : Found) (counted : CensusWithTally)
     (r : Result Reply E)
     → found ≡ Some counted → found ≡ option_map (counted_at ds) o
     → IfOk r (λ reply. reply ≡ replies.Csv (csv_text counted.tally)) → M

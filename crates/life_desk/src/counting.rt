@@ -33,7 +33,7 @@ fn count(
 }
 
 /// The tally of the census's generation of its deposit, and whether that generation is steady.
-pub fn counted(
+pub fn tally_of_generation(
     alloc: Global,
     deposit: &Deposit,
     census: &Census,

@@ -22,7 +22,7 @@ ghost use Rattle.life_census.specs.Steady.{is_steady};
 ghost use Rattle.life_census.specs.CensusTable.{csv_text};
 
 use crate::bytes::Bytes;
-use crate::counting::counted;
+use crate::counting::tally_of_generation;
 use crate::headline::law_of_the_archive;
 use crate::lookups::{
     add_census, add_deposit, counted_census, counts_of, deposit_of, deposits_after, file_of,
@@ -245,7 +245,7 @@ fn add_counted<S: Alter>(
         (λ A r. r ≡ census_reply A (Adds census.now))
         (λ A. with_census A (Adds census.now)) }
 {
-    let (tally, steady) = counted(alloc, deposit, census)?;
+    let (tally, steady) = tally_of_generation(alloc, deposit, census)?;
     Ok(Reply::Counted(add_census(archive, census, &tally, steady)?))
 }
 

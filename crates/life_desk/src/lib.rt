@@ -12,7 +12,7 @@ mod run_laws;
 mod validation;
 
 pub use bytes::Bytes;
-pub use counting::counted;
+pub use counting::tally_of_generation;
 pub use desk::{answer, answer_all, answer_all_in_memory};
 pub use headline::{
     law_of_durability, law_of_migrated_archives, law_of_new_archives, law_of_the_archive,

@@ -109,7 +109,7 @@ fn rows_and_flag_of<S: Alter>(
 
 /// A stored census with its tally, and whether the generation that it counted is steady.
 #[derive(Drop)]
-pub(crate) struct CountedCensus {
+pub(crate) struct CensusWithTally {
     pub(crate) census: Census,
     pub(crate) tally: Tally,
     pub(crate) steady: bool,
@@ -120,7 +120,7 @@ pub(crate) fn counted_census<S: Alter>(
     archive: &mut Archive<S>,
     alloc: Global,
     id: u64,
-) -> Result<Option<CountedCensus>, Unavailable>
+) -> Result<Option<CensusWithTally>, Unavailable>
     ensures { LooksUp S.Store archive.old archive.new result (λ A o. o ≡ option_map (λ c. record { census = c; tally = tally_at A.deposits c; steady = steady_at A.deposits c }) (numbered A.censuses id)) }
 {
     match census_of(archive, alloc, id)? {
@@ -133,7 +133,7 @@ pub(crate) fn counted_census<S: Alter>(
                     unresolved: kept.unresolved,
                     total: kept.total,
                 };
-                Ok(Some(CountedCensus {
+                Ok(Some(CensusWithTally {
                     census: kept.census,
                     tally,
                     steady,

@@ -20,7 +20,7 @@ use crate::executing::{query, sql_integer, sql_text};
 use crate::flags;
 use crate::kept::Census;
 use crate::store_fault::Unavailable;
-use life_census::{Row as Counted, Tally};
+use life_census::{Row as TallyRow, Tally};
 use sqlite::{Alter, Connection, Error, Row, Transaction};
 
 /// The greatest number.
@@ -111,7 +111,7 @@ fn insert_census<S: Alter>(
 fn insert_row<S: Alter>(
     tx: &mut Transaction<'_, S>,
     id: u64,
-    row: &Counted,
+    row: &TallyRow,
 ) -> Result<(), Unavailable>
     ensures added { (p : Parts) → AddsInside S.Store tx.old.conn.now tx.new.conn.now result p (record p { counts = p.counts ++ (id, row_seen row.now) ∷ [] }) }
     ensures stays { StaysInside S.Store tx.old.conn tx.new.conn result }
@@ -135,7 +135,7 @@ fn insert_row<S: Alter>(
 fn insert_rows<S: Alter>(
     tx: &mut Transaction<'_, S>,
     id: u64,
-    rows: &[Counted],
+    rows: &[TallyRow],
 ) -> Result<(), Unavailable>
     ensures added { (p : Parts) → AddsInside S.Store tx.old.conn.now tx.new.conn.now result p (record p { counts = p.counts ++ tagged id (map row_seen rows.now) }) }
     ensures stays { StaysInside S.Store tx.old.conn tx.new.conn result }

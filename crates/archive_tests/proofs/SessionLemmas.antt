@@ -9,7 +9,7 @@ use Rattle.life_rle.specs.Stream.{incremented}
 use Rattle.life_store.specs.Tables.{ArchiveView}
 use Rattle.life_pages.specs.Message.{Message, MessageRun, AnswersMessage}
 use Rattle.life_pages.specs.Serving.{AreAllOf, AreFirstOf}
-use Rattle.life_pages.specs.Archive.{StoreAnswers, IsAnswered}
+use Rattle.life_pages.specs.ServedArchive.{StoreAnswers, IsAnswered}
 use Rattle.life_pages.proofs.ServingRunning.{messages_first}
 use Rattle.life_archive.specs.Session.{ServesOne}
 use Rattle.archive_tests.specs.Sessions.{sends, streams_from}

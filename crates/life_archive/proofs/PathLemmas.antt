@@ -18,7 +18,7 @@ use Rattle.life_desk.specs.Represents.{Represents, kept_of, MigratedIsTheSame}
 use Rattle.life_desk.specs.Run.{RequestStep, IsDurable}
 use Rattle.life_desk.proofs.Runs.{IsSettled}
 use Rattle.life_desk.proofs.Representing.{holds_of, each_of}
-use Rattle.life_pages.specs.Archive.{IsTakenBy}
+use Rattle.life_pages.specs.ServedArchive.{IsTakenBy}
 use Rattle.life_archive.specs.declared.stop.ArchiveStop.{ArchiveStop}
 use Rattle.life_archive.specs.Deposit.{AsksOnce, Deposits, IsDepositSafe}
 use Rattle.life_archive.specs.Session.{Traffic, Runs, ServesConnections, messages_of, replies_of}

@@ -31,13 +31,13 @@ use Rattle.life_desk.specs.Run.{RequestStep}
 use Rattle.life_desk.proofs.Representing.{holds_of, each_of, represents_same}
 use Rattle.life_desk.proofs.Runs.{IsSettled}
 use Rattle.life_desk.proofs.Steps.{step_each, after_each}
-use Rattle.life_pages.specs.declared.fault.MessageRefusal.{MessageRefusal}
+use Rattle.life_pages.specs.declared.pages_fault.MessageRefusal.{MessageRefusal}
 use Rattle.life_pages.specs.Head.{Head}
 use Rattle.life_pages.specs.Asked.{asked}
-use Rattle.life_pages.specs.declared.fault.IoFault.{IoFault}
+use Rattle.life_pages.specs.declared.pages_fault.IoFault.{IoFault}
 use Rattle.life_pages.specs.Message.{Message, good, bad, MessageRun, AnswersAsked, AnswersMessage}
 use Rattle.life_pages.specs.Reply.{bad_bytes}
-use Rattle.life_pages.specs.Archive.{StoreAnswers, IsAnswered, IsLeftOf}
+use Rattle.life_pages.specs.ServedArchive.{StoreAnswers, IsAnswered, IsLeftOf}
 use Rattle.life_pages.proofs.ArchiveRuns.{SomeMessages, run_answered, by_taken, left_safely}
 use Rattle.life_pages.proofs.FirmReplies.{firm_run}
 use Rattle.life_archive.specs.Session.{Exchange, messages_of, replies_of, Traffic, unknown, failures_after, Carries}

@@ -34,7 +34,7 @@ use Rattle.life_archive.specs.declared.stop.ArchiveStop.{ArchiveStop}
 use Rattle.life_archive.specs.declared.stop.ArchiveStop.TheVariants.{Job, NotOurs}
 use Rattle.life_archive.specs.Stop.{line_of}
 use Rattle.life_archive.specs.Deposit.{Deposits, by_streams}
-use Rattle.life_pages.specs.Archive.{IsLeftOf}
+use Rattle.life_pages.specs.ServedArchive.{IsLeftOf}
 use Rattle.life_archive.specs.Session.{Traffic, unknown, Runs, ServesConnections, FilesRepresent, FilesMean}
 use Rattle.life_archive.specs.Session.{CannotListen}
 use Rattle.life_archive.specs.Session.{under, messages_of, replies_of}

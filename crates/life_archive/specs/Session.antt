@@ -19,7 +19,7 @@ use Rattle.life_desk.specs.Represents.{EachHasDeposit, Represents, kept_of}
 use Rattle.life_desk.specs.Run.{RequestStep}
 use Rattle.life_pages.specs.Message.{Message, MessageRun, AnswersMessage}
 use Rattle.life_pages.specs.Serving.{AreAllOf, AreFirstOf}
-use Rattle.life_pages.specs.Archive.{StoreAnswers, AnswersFirmly, ByArchive, IsLeftOf, IsServedUntil}
+use Rattle.life_pages.specs.ServedArchive.{StoreAnswers, AnswersFirmly, ByArchive, IsLeftOf, IsServedUntil}
 use Rattle.life_jobs.specs.declared.stop.Stop.TheVariants.{Unavailable, Unwritable}
 use Rattle.life_archive.specs.declared.stop.ArchiveStop.{ArchiveStop}
 use Rattle.life_archive.specs.declared.stop.ArchiveStop.TheVariants.{Job, NoPort}

@@ -2,8 +2,8 @@
 use Rattle.std.specs.Prelude.{ℕ, List, codes}
 use Rattle.life_desk.specs.Refusals as refusals
 use Rattle.life_jobs.specs.Stop as jobs
-use Rattle.life_pages.specs.declared.fault.IoFault.{IoFault}
-use Rattle.life_pages.specs.declared.fault.IoFault.TheVariants as fault
+use Rattle.life_pages.specs.declared.pages_fault.IoFault.{IoFault}
+use Rattle.life_pages.specs.declared.pages_fault.IoFault.TheVariants as fault
 use Rattle.life_archive.specs.declared.stop.ArchiveStop.{ArchiveStop}
 use Rattle.life_archive.specs.declared.stop.ArchiveStop.TheVariants.{Job, Desk, NotOurs, NoPort}
 

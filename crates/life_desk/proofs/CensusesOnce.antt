@@ -16,7 +16,7 @@ use Rattle.life_desk.specs.Validation.{is_member, is_token, is_generation, is_li
 use Rattle.life_desk.specs.Replies.{is_same_census, has_room, census_of_deposit, census_reply, with_census, IsReply}
 use Rattle.life_desk.specs.Replies.{after, census_asked, IsReplyBy, after_by}
 use Rattle.life_desk.specs.Run.{IsLater}
-use Rattle.life_desk.specs.Laws.{CensusesActOnce, CensusesStay}
+use Rattle.life_desk.specs.DeskLaws.{CensusesActOnce, CensusesStay}
 use Rattle.life_desk.proofs.LaterArchives.{deposit_stays}
 use Rattle.life_desk.proofs.DepositsOnce.{both_refl, both_are}
 use Rattle.life_desk.proofs.Submissions.{Kind, IsStored, found_numbered, answered_stored, stored_longer, stored_repeats}

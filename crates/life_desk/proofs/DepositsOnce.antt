@@ -22,7 +22,7 @@ use Rattle.life_desk.specs.Validation.{is_member, is_token, validated, validated
 use Rattle.life_desk.specs.Replies.{is_same_deposit, has_room, deposit_of_file, deposit_reply, with_deposit, IsReply}
 use Rattle.life_desk.specs.Replies.{after, IsReplyBy, after_by}
 use Rattle.life_desk.specs.Run.{IsLater}
-use Rattle.life_desk.specs.Laws.{EqualTexts, DepositsActOnce, DepositsStay}
+use Rattle.life_desk.specs.DeskLaws.{EqualTexts, DepositsActOnce, DepositsStay}
 use Rattle.life_desk.specs.Represents.{IsReadAgain}
 use Rattle.life_desk.proofs.LaterArchives.{deposit_stays}
 use Rattle.life_desk.proofs.Steps.{after_again, numbered_again}

@@ -17,7 +17,7 @@ use Rattle.life_desk.specs.Archive.{Archive}
 use Rattle.life_desk.specs.Validation.{validated, validated_by, fault_in, first_fault, rule_fault, is_limit}
 use Rattle.life_desk.specs.Replies.{IsReplyTo, IsReplyBy, IsTotalUnder}
 use Rattle.life_desk.specs.Run.{RequestRun}
-use Rattle.life_desk.specs.Laws.{OneReply, SameReplies}
+use Rattle.life_desk.specs.DeskLaws.{OneReply, SameReplies}
 use Rattle.life_desk.proofs.Steps.{step_answers}
 use Rattle.life_desk.proofs.Totals.{total_there, total_one}
 

@@ -34,7 +34,7 @@ use Rattle.life_desk.specs.Replies.{shown_reply}
 use Rattle.life_desk.specs.Represents.{EachHasDeposit, IsRepresentable}
 use Rattle.life_store.specs.Tables.{ArchiveView, StaysHealthy}
 use Rattle.life_desk.specs.Run.{RequestRun, IsAnswered, IsLater, Answered}
-use Rattle.life_desk.specs.Laws.{FlagTellsSteady}
+use Rattle.life_desk.specs.DeskLaws.{FlagTellsSteady}
 use Rattle.life_desk.specs.Headline.{CountsEachOnce, ShowsCensus, HeadlineHolds, IsTheArchive, IsTheArchiveOrFaults}
 use Rattle.life_desk.specs.Headline.{IsTheArchiveInMemory}
 use Rattle.life_desk.proofs.Representing.{representable_of}

@@ -27,7 +27,7 @@ use Rattle.life_desk.specs.Run.{RequestStep, answers, unavailable, RequestRun, I
 use Rattle.life_desk.proofs.Representing.{each_longer}
 use Rattle.life_desk.proofs.LaterArchives.{later_same, later_later}
 use Rattle.life_desk.proofs.Submissions.{after_longer, all_after}
-use Rattle.life_desk.specs.Laws.{NothingIsLost}
+use Rattle.life_desk.specs.DeskLaws.{NothingIsLost}
 
 -- ---- nothing is lost
 

@@ -7,5 +7,5 @@ pub mod Represents
 pub mod LookupsState
 pub mod DeskState
 pub mod Run
-pub mod Laws
+pub mod DeskLaws
 pub mod Headline

@@ -1,5 +1,5 @@
 //! What makes the definitions of the archive believable.
-ghost use Rattle.life_desk.specs.Laws.{FilesAreReadAgain, EqualTexts, OneReply, NothingIsLost, DepositsStay, CensusesStay, DepositsActOnce, CensusesActOnce, FlagTellsSteady, SameReplies};
+ghost use Rattle.life_desk.specs.DeskLaws.{FilesAreReadAgain, EqualTexts, OneReply, NothingIsLost, DepositsStay, CensusesStay, DepositsActOnce, CensusesActOnce, FlagTellsSteady, SameReplies};
 
 use life_census::laws_of_steady_fields;
 

@@ -7,7 +7,7 @@ use Rattle.life_desk.specs.declared.refusal.Refusal.{Refusal}
 use Rattle.life_desk.specs.declared.refusal.Refusal.TheVariants as refusals
 use Rattle.life_desk.specs.Validation.{validated, MayRefuse}
 use Rattle.life_desk.specs.Replies.{is_shown}
-use Rattle.life_pages.specs.declared.fault.MessageRefusal.{MessageRefusal}
+use Rattle.life_pages.specs.declared.pages_fault.MessageRefusal.{MessageRefusal}
 use Rattle.life_pages.specs.declared.asked.RequestFault.{RequestFault}
 use Rattle.life_pages.specs.declared.asked.RequestFault.TheVariants as request_fault
 use Rattle.life_pages.specs.AskedState.{IsAsked}

@@ -4,10 +4,10 @@ use Rattle.sqlite_trees.specs.declared.store.Store.{Ghosts}
 use Rattle.life_rle.specs.Stream.{Appends, AppendsSome}
 use Rattle.life_store.specs.Tables.{ArchiveView}
 use Rattle.life_desk.proofs.Runs.{IsSettled}
-use Rattle.life_pages.specs.declared.fault.IoFault.{IoFault}
+use Rattle.life_pages.specs.declared.pages_fault.IoFault.{IoFault}
 use Rattle.life_pages.specs.Message.{Message, MessageRun, AnswersMessage}
 use Rattle.life_pages.specs.Serving.{AreAllOf, AreFirstOf, Served, RepliesCutShort}
-use Rattle.life_pages.specs.Archive.{StoreAnswers, IsAnswered}
+use Rattle.life_pages.specs.ServedArchive.{StoreAnswers, IsAnswered}
 use Rattle.life_pages.proofs.ArchiveRuns.{run_answered, by_taken, left_safely}
 use Rattle.life_pages.proofs.FirmReplies.{firm_run}
 

@@ -8,12 +8,12 @@ use Rattle.life_desk.specs.Archive.{Archive}
 use Rattle.life_desk.specs.Represents.{RecoveredRepresents}
 use Rattle.life_desk.specs.Replies.{after}
 use Rattle.life_desk.specs.Run.{RequestStep, RequestRun, IsCrashOf, AcknowledgeNothing}
-use Rattle.life_pages.specs.declared.fault.MessageRefusal.{MessageRefusal}
+use Rattle.life_pages.specs.declared.pages_fault.MessageRefusal.{MessageRefusal}
 use Rattle.life_pages.specs.Head.{Head}
 use Rattle.life_pages.specs.Asked.{asked}
 use Rattle.life_pages.specs.Message.{Message, good, bad, AnswersAsked, AnswersMessage}
 use Rattle.life_pages.specs.Reply.{bytes_of, bad_bytes}
-use Rattle.life_pages.specs.Archive.{AcknowledgesNothing, RepliesAcknowledgeNothing, IsServedUntil}
+use Rattle.life_pages.specs.ServedArchive.{AcknowledgesNothing, RepliesAcknowledgeNothing, IsServedUntil}
 
 -- What a crash leaves of one message whose request is x and whose reply is these bytes: the archive after it; or, if
 -- the bytes say nothing of what is kept, the one before it or the one after its request.

@@ -8,10 +8,10 @@ use Rattle.life_desk.specs.Represents.{IsRepresentable, Represents}
 use Rattle.life_desk.specs.Run.{RequestStep}
 use Rattle.life_desk.specs.Headline.{HeadlineHolds}
 use Rattle.life_desk.proofs.Representing.{representable_of}
-use Rattle.life_pages.specs.declared.fault.IoFault.{IoFault}
+use Rattle.life_pages.specs.declared.pages_fault.IoFault.{IoFault}
 use Rattle.life_pages.specs.Message.{Message, MessageRun, AnswersMessage}
 use Rattle.life_pages.specs.Serving.{AreAllOf, AreFirstOf, Served, RepliesCutShort}
-use Rattle.life_pages.specs.Archive.{ByArchive}
+use Rattle.life_pages.specs.ServedArchive.{ByArchive}
 use Rattle.life_pages.specs.Requests.{requests_of, ServesTheHeadline}
 use Rattle.life_pages.proofs.RequestRuns.{as_requests}
 

@@ -8,11 +8,11 @@ use Rattle.life_desk.specs.declared.request.Reply.{Reply}
 use Rattle.life_desk.specs.declared.request.Reply.TheVariants as replies
 use Rattle.life_desk.specs.Validation.{validated, MayRefuse}
 use Rattle.life_desk.specs.Replies.{is_shown}
-use Rattle.life_pages.specs.declared.fault.MessageRefusal.{MessageRefusal}
+use Rattle.life_pages.specs.declared.pages_fault.MessageRefusal.{MessageRefusal}
 use Rattle.life_pages.specs.Asked.{asked}
 use Rattle.life_pages.specs.Message.{Message, good, bad, MessageRun, AnswersAsked, AnswersMessage}
 use Rattle.life_pages.specs.Serving.{RepliesCutShort}
-use Rattle.life_pages.specs.Archive.{StoreAnswers, AnswersFirmly}
+use Rattle.life_pages.specs.ServedArchive.{StoreAnswers, AnswersFirmly}
 
 -- what is refused for its own words is not shown
 pub shown_not_refused : {J : Type 0} (x : Result J Refusal) (r s : Reply) (P : Type 0) → is_shown r ≡ true

@@ -6,10 +6,11 @@ use Rattle.std.specs.List.{AllByRecursion, join_with_byte, list_all}
 use Rattle.std.proofs.lemmas.Bool.{eqb-true}
 use Rattle.life_core.specs.Ascii.{comma, slash}
 use Rattle.life_pages.specs.Head.{onto_first, parts_between_commas}
-use Rattle.life_pages.specs.Path.{to_slash, from_slash}
+use Rattle.life_pages.specs.RequestPath.{to_slash, from_slash}
 use Rattle.life_pages.specs.Route.{Piece, byte, parameter, pieces_of, captured}
-use Rattle.life_pages.specs.Laws.{HasNoComma, PartsAreTheValue, filled, IsParameter, CapturesAreThePath, template_texts}
-use Rattle.life_pages.specs.Laws.{Fits, OneTemplate}
+use Rattle.life_pages.specs.PagesLaws.{HasNoComma, PartsAreTheValue, filled, IsParameter, CapturesAreThePath}
+use Rattle.life_pages.specs.PagesLaws.{template_texts}
+use Rattle.life_pages.specs.PagesLaws.{Fits, OneTemplate}
 
 -- ---- the parts of a value
 

@@ -6,7 +6,7 @@ use Rattle.httparse.specs.Grammar.{print_request}
 use Rattle.httparse.proofs.GrammarLemmas.{request_unique}
 use Rattle.life_pages.specs.Head.{Head, head_of}
 use Rattle.life_pages.specs.Message.{Message, good, bad, Messages, HasMessageInFront, are_line_breaks}
-use Rattle.life_pages.specs.Laws.{OneListOfMessages, NoneWithoutMessages}
+use Rattle.life_pages.specs.PagesLaws.{OneListOfMessages, NoneWithoutMessages}
 use Rattle.life_pages.proofs.MessageStanding.{not_blank, not_empty}
 
 -- ---- one at most

@@ -14,12 +14,12 @@ use Rattle.life_desk.specs.declared.refusal.Refusal.TheVariants.{Unavailable}
 use Rattle.life_desk.specs.Refusals as refusals
 use Rattle.life_desk.specs.declared.request.Reply.{Reply}
 use Rattle.life_desk.specs.declared.request.Reply.TheVariants as replies
-use Rattle.life_pages.specs.declared.fault.MessageRefusal.{MessageRefusal}
-use Rattle.life_pages.specs.declared.fault.MessageRefusal.TheVariants.{NoSuchRoute, BadMethod, BadMessage}
-use Rattle.life_pages.specs.Fault.{label_of}
+use Rattle.life_pages.specs.declared.pages_fault.MessageRefusal.{MessageRefusal}
+use Rattle.life_pages.specs.declared.pages_fault.MessageRefusal.TheVariants.{NoSuchRoute, BadMethod, BadMessage}
+use Rattle.life_pages.specs.PagesFault.{label_of}
 use Rattle.life_pages.specs.Reply.{phrase, refusal_body, reply_bytes, message_refusal_bytes}
 use Rattle.life_pages.specs.Reply.{reply_status, type_of, reply_body, page_status, json}
-use Rattle.life_pages.specs.Laws.{AreReplyBytes, RepliesAreReadInOneWay}
+use Rattle.life_pages.specs.PagesLaws.{AreReplyBytes, RepliesAreReadInOneWay}
 
 -- ---- the first CR
 

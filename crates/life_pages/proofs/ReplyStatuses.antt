@@ -5,10 +5,10 @@ use Rattle.life_desk.specs.declared.refusal.Refusal.TheVariants.{Unavailable}
 use Rattle.life_desk.specs.declared.request.Reply.{Reply}
 use Rattle.life_desk.specs.declared.request.Reply.TheVariants as replies
 use Rattle.life_desk.specs.Replies.{acknowledges}
-use Rattle.life_pages.specs.declared.fault.MessageRefusal.{MessageRefusal}
-use Rattle.life_pages.specs.declared.fault.MessageRefusal.TheVariants.{NoSuchRoute}
+use Rattle.life_pages.specs.declared.pages_fault.MessageRefusal.{MessageRefusal}
+use Rattle.life_pages.specs.declared.pages_fault.MessageRefusal.TheVariants.{NoSuchRoute}
 use Rattle.life_pages.specs.Reply.{reply_bytes, bytes_of, message_refusal_bytes}
-use Rattle.life_pages.specs.Laws.{AcknowledgementsAreKnown, PagesAcknowledgeNothing}
+use Rattle.life_pages.specs.PagesLaws.{AcknowledgementsAreKnown, PagesAcknowledgeNothing}
 
 -- whether the digit of 201 stands where the last of a status does, after `HTTP/1.1 ` and two others
 abbrev begins_one : List ℕ → Bool

@@ -4,7 +4,7 @@ use Rattle.life_desk.specs.declared.request.Request.{Request}
 use Rattle.life_desk.specs.declared.request.Reply.{Reply}
 use Rattle.life_desk.specs.Archive.{Archive}
 use Rattle.life_desk.specs.Run.{RequestStep, RequestRun}
-use Rattle.life_pages.specs.declared.fault.MessageRefusal.{MessageRefusal}
+use Rattle.life_pages.specs.declared.pages_fault.MessageRefusal.{MessageRefusal}
 use Rattle.life_pages.specs.Asked.{asked}
 use Rattle.life_pages.specs.Message.{Message, good, bad, MessageRun, AnswersAsked, AnswersMessage}
 use Rattle.life_pages.specs.Reply.{bytes_of, message_refusal_bytes, bad_bytes}

@@ -10,7 +10,7 @@ use Rattle.std.proofs.lemmas.Str.{IsCharBoundary-before_ascii}
 use Rattle.std.specs.Str.{IsUtf8}
 use Rattle.matchit.specs.Seek.{segment, has_slash}
 use Rattle.matchit.specs.Params.{walk, wild_from, wild_stop, part_of, after_token}
-use Rattle.life_pages.specs.Path.{to_slash, from_slash}
+use Rattle.life_pages.specs.RequestPath.{to_slash, from_slash}
 use Rattle.life_pages.specs.Route.{Piece, byte, parameter, captured}
 use Rattle.life_pages.specs.RouteState.{texts_of, AreTexts}
 use Rattle.life_pages.proofs.RouteSeeking.{and_split, same_nat, slash_front, no_slash_front}

@@ -10,7 +10,7 @@ use Rattle.matchit.specs.Params.{walk}
 use Rattle.matchit.specs.Router.{RouteOf}
 use Rattle.matchit.proofs.OnLiterals.{matchit_on_literals}
 use Rattle.life_pages.specs.declared.route.Method.{Method}
-use Rattle.life_pages.specs.Path.{to_slash, from_slash}
+use Rattle.life_pages.specs.RequestPath.{to_slash, from_slash}
 use Rattle.life_pages.specs.Route.{Piece, byte, parameter, pieces_of, captured, Reading, reading_of, Row, routes}
 use Rattle.life_pages.specs.Route.{Found, found_by, read_or, route_among, route_of}
 use Rattle.life_pages.specs.RouteState.{Value, routes_listed, route_rows}

@@ -5,7 +5,7 @@ use Rattle.std.proofs.Common.{nat_eq, arith}
 use Rattle.std.proofs.lemmas.Bool.Decides.{nat_tests}
 use Rattle.std.specs.List.{ends_with}
 use Rattle.std.specs.Cmp.Lexicographic.{pointwise}
-use Rattle.life_pages.specs.Path.{from_slash}
+use Rattle.life_pages.specs.RequestPath.{from_slash}
 use Rattle.matchit.specs.Rows.{RowsOf, comes_before}
 use Rattle.matchit.specs.Seek.{segment, has_slash, cuts, own, step, or_else, longest_from, with_suffix, param_step}
 use Rattle.matchit.specs.Seek.{seek}

@@ -6,8 +6,8 @@ use Rattle.life_pages.specs.Head.{Head}
 use Rattle.life_pages.specs.Message.{HasNone, are_line_breaks}
 use Rattle.life_pages.specs.MessageState.{NeverHas, held_limit}
 use Rattle.life_pages.specs.Serving.{most_takes, RepliesCutShort, Served, ConsumesAtLeast, Grows}
-use Rattle.life_pages.specs.declared.fault.IoFault.{IoFault}
-use Rattle.life_pages.specs.declared.fault.IoFault.TheVariants as faults
+use Rattle.life_pages.specs.declared.pages_fault.IoFault.{IoFault}
+use Rattle.life_pages.specs.declared.pages_fault.IoFault.TheVariants as faults
 use Rattle.life_pages.specs.ServingState.{Ended, AtEnd, IsOutcome, IsBlankEnd}
 use Rattle.life_pages.proofs.ServingRunning.{cut_broke}
 use Rattle.life_pages.proofs.ServingReading.{Reading, reading_ended, reading_end, reading_cut_end, served_broke}

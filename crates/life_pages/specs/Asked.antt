@@ -3,10 +3,10 @@
 use Rattle.std.specs.Prelude.{ℕ, if◌then◌else◌, List, Option, None, Some, Result, Ok, Err}
 use Rattle.std.specs.Str.{bytes_eq}
 use Rattle.life_desk.specs.declared.request.Request.{Request}
-use Rattle.life_pages.specs.declared.fault.MessageRefusal.{MessageRefusal}
-use Rattle.life_pages.specs.declared.fault.MessageRefusal.TheVariants.{NoSuchRoute, BadMethod}
+use Rattle.life_pages.specs.declared.pages_fault.MessageRefusal.{MessageRefusal}
+use Rattle.life_pages.specs.declared.pages_fault.MessageRefusal.TheVariants.{NoSuchRoute, BadMethod}
 use Rattle.life_pages.specs.Head.{Head}
-use Rattle.life_pages.specs.Path.{path_of}
+use Rattle.life_pages.specs.RequestPath.{path_of}
 use Rattle.life_pages.specs.Route.{method_name, Found, route_of}
 
 -- the route is validated first, and then the method

@@ -3,7 +3,7 @@ use Rattle.std.specs.Prelude.{◌≡◌, Result, Ok, Err}
 use Rattle.life_desk.specs.declared.refusal.Refusal.{Refusal}
 use Rattle.life_desk.specs.declared.request.Request.{Request}
 use Rattle.life_desk.specs.Validation.{validated, MayRefuse}
-use Rattle.life_pages.specs.declared.fault.MessageRefusal.{MessageRefusal}
+use Rattle.life_pages.specs.declared.pages_fault.MessageRefusal.{MessageRefusal}
 use Rattle.life_pages.specs.declared.asked.RequestFault.{RequestFault}
 use Rattle.life_pages.specs.declared.asked.RequestFault.TheVariants as request_fault
 

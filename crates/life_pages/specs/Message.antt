@@ -6,7 +6,7 @@ use Rattle.life_core.specs.Ascii.{line_feed, carriage_return}
 use Rattle.httparse.specs.Grammar.{RequestHead, IsRequestHead, HasNoRequest, MayBecomeRequest, print_request}
 use Rattle.life_desk.specs.declared.request.Request.{Request}
 use Rattle.life_desk.specs.declared.request.Reply.{Reply}
-use Rattle.life_pages.specs.declared.fault.MessageRefusal.{MessageRefusal}
+use Rattle.life_pages.specs.declared.pages_fault.MessageRefusal.{MessageRefusal}
 use Rattle.life_pages.specs.Head.{Head, head_of}
 use Rattle.life_pages.specs.Asked.{asked}
 use Rattle.life_pages.specs.Reply.{bytes_of, message_refusal_bytes, bad_bytes}

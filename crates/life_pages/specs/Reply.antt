@@ -8,9 +8,9 @@ use Rattle.life_desk.specs.declared.refusal.Refusal.TheVariants.{BadPattern}
 use Rattle.life_desk.specs.declared.request.Reply.{Reply}
 use Rattle.life_desk.specs.declared.request.Reply.TheVariants as replies
 use Rattle.life_desk.specs.Refusals as refusals
-use Rattle.life_pages.specs.declared.fault.MessageRefusal.{MessageRefusal}
-use Rattle.life_pages.specs.declared.fault.MessageRefusal.TheVariants.{NoSuchRoute, BadMethod, BadMessage}
-use Rattle.life_pages.specs.Fault.{label_of}
+use Rattle.life_pages.specs.declared.pages_fault.MessageRefusal.{MessageRefusal}
+use Rattle.life_pages.specs.declared.pages_fault.MessageRefusal.TheVariants.{NoSuchRoute, BadMethod, BadMessage}
+use Rattle.life_pages.specs.PagesFault.{label_of}
 use Rattle.life_pages.specs.Json.{kind_data, shown_data, list_data}
 
 -- the words after a status

@@ -7,8 +7,8 @@ use Rattle.life_rle.specs.Stream.{incremented, EndsLast, FailedBetween, FailsLas
 use Rattle.life_rle.specs.Stream.{Appends, AppendsSome}
 use Rattle.life_pages.specs.Head.{Head}
 use Rattle.life_pages.specs.Message.{Message, Messages, Front, Starts, MessageRun, HasNone, IsAwaited}
-use Rattle.life_pages.specs.declared.fault.IoFault.{IoFault}
-use Rattle.life_pages.specs.declared.fault.IoFault.TheVariants.{Read, Write, TooManyReads, Memory}
+use Rattle.life_pages.specs.declared.pages_fault.IoFault.{IoFault}
+use Rattle.life_pages.specs.declared.pages_fault.IoFault.TheVariants.{Read, Write, TooManyReads, Memory}
 
 -- the most takes of one call
 abbrev pub most_takes : ℕ

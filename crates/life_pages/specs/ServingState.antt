@@ -2,8 +2,8 @@
 use Rattle.std.specs.Prelude.{◌≡◌, ◌⊎◌, ℕ, ◌<◌, ◌≤◌, Bool, true, false, List, [], ◌++◌, length, Option, None, Some}
 use Rattle.std.specs.Prelude.{Result, Ok, Err}
 use Rattle.life_rle.specs.Stream.{incremented, Consumes, Appends, AppendsSome, IsEnded}
-use Rattle.life_pages.specs.declared.fault.IoFault.{IoFault}
-use Rattle.life_pages.specs.declared.fault.IoFault.TheVariants as faults
+use Rattle.life_pages.specs.declared.pages_fault.IoFault.{IoFault}
+use Rattle.life_pages.specs.declared.pages_fault.IoFault.TheVariants as faults
 use Rattle.life_pages.specs.declared.serving.Step.{Step}
 use Rattle.life_pages.specs.declared.serving.Step.TheVariants.{Wants, Goes, Ends}
 use Rattle.life_pages.specs.declared.serving.AfterBlank.{AfterBlank}

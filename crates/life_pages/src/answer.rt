@@ -1,7 +1,7 @@
 //! The reply to a good message.
 ghost use Rattle.std.specs.Prelude.{◌≡◌, ◌≤◌, vec_capacity, Result, Ok, Err, IfOk};
 ghost use Rattle.life_desk.specs.declared.request.Request.{Request};
-ghost use Rattle.life_pages.specs.declared.fault.MessageRefusal.{MessageRefusal};
+ghost use Rattle.life_pages.specs.declared.pages_fault.MessageRefusal.{MessageRefusal};
 ghost use Rattle.life_pages.specs.AskedState.{IsAsked};
 ghost use Rattle.life_pages.specs.HeadState.{parsed};
 ghost use Rattle.life_pages.specs.RouteState.{route_rows};
@@ -9,7 +9,7 @@ ghost use Rattle.life_pages.specs.Message.{AnswersAsked, AnswersMessage};
 ghost use Rattle.life_pages.specs.AnswerState.{HasRoom};
 
 use crate::asked::{RequestFault, asked};
-use crate::desk::Desk;
+use crate::desk_trait::Desk;
 use crate::head::GoodHead;
 use crate::reply::{BODY_ROOM, REPLY_ROOM, write_page, write_refusal, write_reply};
 use crate::route::{Method, Template};

@@ -5,9 +5,9 @@ ghost use Rattle.life_pages.specs.RouteState.{route_rows, ask_of};
 ghost use Rattle.life_pages.specs.Asked.{asked};
 ghost use Rattle.life_pages.specs.AskedState.{IsAsked, GivesRequest};
 
-use crate::fault::MessageRefusal;
 use crate::head::GoodHead;
-use crate::path::path_of;
+use crate::pages_fault::MessageRefusal;
+use crate::request_path::path_of;
 use crate::route::{Asked, Captured, Method, Template, find_route};
 use life_desk::{Bytes, Refusal, Request, check_census, check_deposit, check_total};
 use life_rle::Text;

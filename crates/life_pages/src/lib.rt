@@ -2,20 +2,20 @@
 #![tactic(auto)]
 
 mod answer;
-mod archive;
 mod asked;
-mod desk;
-mod fault;
+mod desk_trait;
 mod head;
 mod json;
 mod message;
 mod message_laws;
-mod path;
+mod pages_fault;
 mod reply;
+mod request_path;
 mod route;
+mod served_archive;
 mod serving;
 
-pub use archive::{serve, serve_in_memory};
-pub use fault::{IoFault, MESSAGE_REFUSALS, MessageRefusal};
 pub use message_laws::{laws_of_heads, laws_of_messages};
+pub use pages_fault::{IoFault, MESSAGE_REFUSALS, MessageRefusal};
 pub use route::{Method, Route, Template, routes};
+pub use served_archive::{serve, serve_in_memory};

@@ -1,5 +1,5 @@
 //! What holds of all streams.
-ghost use Rattle.life_pages.specs.Laws.{OneListOfMessages, NoneWithoutMessages, AcknowledgementsAreKnown, PagesAcknowledgeNothing, RepliesAreReadInOneWay, PartsAreTheValue, CapturesAreThePath, OneTemplate};
+ghost use Rattle.life_pages.specs.PagesLaws.{OneListOfMessages, NoneWithoutMessages, AcknowledgementsAreKnown, PagesAcknowledgeNothing, RepliesAreReadInOneWay, PartsAreTheValue, CapturesAreThePath, OneTemplate};
 ghost use Rattle.life_pages.specs.Requests.{MessagesRunAsRequests, RequestsRunAsMessages};
 
 /// The bytes of a stream say what its messages are: it has one list of them. A run over messages is a run of the requests that

@@ -6,8 +6,8 @@ ghost use Rattle.life_desk.specs.Replies.{is_shown};
 ghost use Rattle.life_pages.specs.Reply.{phrase, reply_bytes, json, number_body, refusal_body, fault_part, bytes_of, reply_status, type_of, reply_body, message_refusal_bytes, bad_bytes, unavailable_bytes};
 ghost use Rattle.life_pages.specs.ReplyState.{Writes};
 
-use crate::fault::MessageRefusal;
 use crate::json::{kind_body, list_body, shown_body};
+use crate::pages_fault::MessageRefusal;
 use http::StatusCode;
 use itoa::Buffer;
 use life_desk::{Refusal, Reply};

@@ -12,9 +12,9 @@ ghost use Rattle.life_pages.specs.Serving.{IsServed, UsesStreams, ReportsTakeFai
 ghost use Rattle.life_pages.specs.ServingState.{AtEnd, IsStep, IsHeldServed, IsOutcome, HoldsTaken, IsAfterBlank, CountsFailedTake, IsBlankEnd};
 
 use crate::answer::{ReplyBuffers, answer_message};
-use crate::desk::Desk;
-use crate::fault::{IoFault, MessageRefusal};
+use crate::desk_trait::Desk;
 use crate::message::{HEAD_LIMIT, Next, are_blank, next_message};
+use crate::pages_fault::{IoFault, MessageRefusal};
 use crate::reply::{add, page_reply};
 use crate::route::{Method, Template, route_table};
 use life_rle::{Failed, Inlet, Outlet, put_all};

@@ -20,7 +20,7 @@ pub const MESSAGE_REFUSALS: [MessageRefusal; 3] = [
 ];
 
 impl MessageRefusal {
-    ghost use Rattle.life_pages.specs.Fault.{label_of};
+    ghost use Rattle.life_pages.specs.PagesFault.{label_of};
     ghost use Rattle.life_pages.specs.Reply.{page_status};
 
     /// The refusal's number. Those below it are the archive's.
@@ -67,7 +67,7 @@ pub enum IoFault {
 }
 
 impl IoFault {
-    ghost use Rattle.life_pages.specs.Fault.{io_fault_number};
+    ghost use Rattle.life_pages.specs.PagesFault.{io_fault_number};
 
     /// The fault's number, from 1 on.
     pub fn number(self) -> u8

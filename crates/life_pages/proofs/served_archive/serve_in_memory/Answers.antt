@@ -1,6 +1,6 @@
 use Rattle.sqlite.specs.Steps.{over_memory}
 use Rattle.life_pages.proofs.ArchiveRuns.{in_memory, told_in_memory, served_in_memory}
-use Rattle.life_pages.proofs.archive.serve_in_memory.Goals as goal
+use Rattle.life_pages.proofs.served_archive.serve_in_memory.Goals as goal
 
 pub returns-clause-served : goal.returns-clause-served
 returns-clause-served g c =

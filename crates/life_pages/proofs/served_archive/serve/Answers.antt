@@ -2,7 +2,7 @@ use Rattle.life_pages.proofs.ArchiveRuns.{archive_served, served_safely}
 use Rattle.life_pages.proofs.ArchiveAnswers.{first_answered, all_answered}
 use Rattle.life_pages.proofs.ArchiveHeadline.{headline_first, headline_all}
 use Rattle.life_pages.proofs.FirmReplies.{firm_replies}
-use Rattle.life_pages.proofs.archive.serve.Goals as goal
+use Rattle.life_pages.proofs.served_archive.serve.Goals as goal
 
 pub returns-clause-served : goal.returns-clause-served
 returns-clause-served g c =

@@ -1,8 +1,8 @@
 use Rattle.life_desk.specs.Validation.{validated}
 use Rattle.life_desk.proofs.Runs.{one_unasked}
-use Rattle.life_pages.specs.Archive.{StoreAnswers}
+use Rattle.life_pages.specs.ServedArchive.{StoreAnswers}
 use Rattle.life_pages.proofs.FirmReplies.{unasked_firm}
-use Rattle.life_pages.proofs.archive.ArchiveDesk.law_of_refusals.Goals as goal
+use Rattle.life_pages.proofs.served_archive.ArchiveDesk.law_of_refusals.Goals as goal
 
 pub returns : goal.returns
 unfolding StoreAnswers

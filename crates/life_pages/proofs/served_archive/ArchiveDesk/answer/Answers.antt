@@ -1,9 +1,9 @@
 use Rattle.life_desk.specs.declared.request.Reply.TheVariants as replies
 use Rattle.life_desk.specs.declared.refusal.Refusal.TheVariants as refusals
 use Rattle.life_desk.specs.Validation.{validated}
-use Rattle.life_pages.specs.Archive.{StoreAnswers}
+use Rattle.life_pages.specs.ServedArchive.{StoreAnswers}
 use Rattle.life_pages.proofs.FirmReplies.{shown_not_refused}
-use Rattle.life_pages.proofs.archive.ArchiveDesk.answer.Goals as goal
+use Rattle.life_pages.proofs.served_archive.ArchiveDesk.answer.Goals as goal
 
 pub returns-clause-may_be_unavailable : goal.returns-clause-may_be_unavailable
 unfolding StoreAnswers

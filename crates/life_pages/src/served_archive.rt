@@ -4,11 +4,11 @@ ghost use Rattle.life_rle.specs.Stream.{Appends, AppendsSome};
 ghost use Rattle.life_desk.specs.Run.{RequestStep};
 ghost use Rattle.life_pages.specs.Message.{AnswersMessage};
 ghost use Rattle.life_pages.specs.Serving.{AreAllOf, AreFirstOf, IsServed, RepliesCutShort, UsesStreams};
-ghost use Rattle.life_pages.specs.Archive.{AnswersFirmly, ByArchive, InMemory, IsAnswered, IsServedSafely};
+ghost use Rattle.life_pages.specs.ServedArchive.{AnswersFirmly, ByArchive, InMemory, IsAnswered, IsServedSafely};
 ghost use Rattle.life_pages.specs.Requests.{ServesTheHeadline};
 
-use crate::desk::Desk;
-use crate::fault::IoFault;
+use crate::desk_trait::Desk;
+use crate::pages_fault::IoFault;
 use crate::serving::serve_desk;
 use life_desk::{Reply, Request, answer, law_of_the_archive};
 use life_rle::{Inlet, Outlet};
@@ -17,11 +17,11 @@ use sqlite::{Alter, MemStore};
 use std::alloc::Global;
 
 impl<S: Alter> Desk for Archive<S> {
-    ghost use Rattle.life_pages.specs.Archive.{StoreAnswers};
+    ghost use Rattle.life_pages.specs.ServedArchive.{StoreAnswers};
 
     ghost answers = { StoreAnswers S.Store };
 
-    #[tactic(auto, unfolding(crate::specs::Archive::StoreAnswers))]
+    #[tactic(auto, unfolding(crate::specs::ServedArchive::StoreAnswers))]
     fn answer(&mut self, alloc: Global, request: Request) -> Reply {
         answer(self, alloc, request)
     }

@@ -4,7 +4,7 @@ use Rattle.std.specs.List.{AllByRecursion, Contains, join_with_byte}
 use Rattle.life_core.specs.Ascii.{comma, slash}
 use Rattle.life_desk.specs.declared.request.Reply.{Reply}
 use Rattle.life_desk.specs.Replies.{acknowledges}
-use Rattle.life_pages.specs.declared.fault.MessageRefusal.{MessageRefusal}
+use Rattle.life_pages.specs.declared.pages_fault.MessageRefusal.{MessageRefusal}
 use Rattle.life_pages.specs.Reply.{bytes_of, message_refusal_bytes, reply_body}
 use Rattle.life_pages.specs.Head.{parts_between_commas}
 use Rattle.life_pages.specs.Message.{Message, Messages}

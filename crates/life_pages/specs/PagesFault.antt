@@ -1,10 +1,10 @@
 -- The number and the name of each refusal of a message, and the number of each fault of serving a stream.
 use Rattle.std.specs.Prelude.{ℕ, codes}
 use Rattle.life_core.specs.CoreFault.{Label, label}
-use Rattle.life_pages.specs.declared.fault.MessageRefusal.{MessageRefusal}
-use Rattle.life_pages.specs.declared.fault.MessageRefusal.TheVariants.{NoSuchRoute, BadMethod, BadMessage}
-use Rattle.life_pages.specs.declared.fault.IoFault.{IoFault}
-use Rattle.life_pages.specs.declared.fault.IoFault.TheVariants.{Read, Write, TooManyReads, Memory}
+use Rattle.life_pages.specs.declared.pages_fault.MessageRefusal.{MessageRefusal}
+use Rattle.life_pages.specs.declared.pages_fault.MessageRefusal.TheVariants.{NoSuchRoute, BadMethod, BadMessage}
+use Rattle.life_pages.specs.declared.pages_fault.IoFault.{IoFault}
+use Rattle.life_pages.specs.declared.pages_fault.IoFault.TheVariants.{Read, Write, TooManyReads, Memory}
 
 -- after those of the archive
 abbrev pub label_of : MessageRefusal → Label

@@ -8,7 +8,7 @@ use Rattle.sqlite_trees.specs.declared.store.Store.{Ghosts}
 use Rattle.life_rle.specs.Stream.{incremented}
 use Rattle.life_store.specs.Tables.{ArchiveView}
 use Rattle.life_pages.specs.Message.{Message, MessageRun, AnswersMessage}
-use Rattle.life_pages.specs.Serving.{AreAllOf, AreFirstOf}
+use Rattle.life_pages.specs.Serving.{AreAllOf, AreFirstOfStream}
 use Rattle.life_pages.specs.ServedArchive.{StoreAnswers, IsAnswered}
 use Rattle.life_pages.proofs.ServingRunning.{messages_first}
 use Rattle.life_archive.specs.Session.{ServesOne}
@@ -25,8 +25,8 @@ module _ {S : Type 0} (g : Ghosts S) (old new : ArchiveView S) (sent : List ℕ)
   all_of : (ms : List Message) → AreAllOf stream ms → AreAllOf (Some sent) ms
   all_of ms all = subst (λ (s : Option (List ℕ)). AreAllOf s ms) is all
 
-  first_of : (ms : List Message) → AreFirstOf stream ms → AreFirstOf (Some sent) ms
-  first_of ms first = subst (λ (s : Option (List ℕ)). AreFirstOf s ms) is first
+  first_of : (ms : List Message) → AreFirstOfStream stream ms → AreFirstOfStream (Some sent) ms
+  first_of ms first = subst (λ (s : Option (List ℕ)). AreFirstOfStream s ms) is first
 
   -- it was served to its end
   pub sent_whole : (puts : List ℕ → Type 0) → IsAnswered g (AreAllOf stream) puts old new
@@ -47,7 +47,7 @@ module _ {S : Type 0} (g : Ghosts S) (old new : ArchiveView S) (sent : List ℕ)
       )
 
   -- it was not
-  pub sent_first : (puts : List ℕ → Type 0) → IsAnswered g (AreFirstOf stream) puts old new
+  pub sent_first : (puts : List ℕ → Type 0) → IsAnswered g (AreFirstOfStream stream) puts old new
       → ServesOne g old new (sends (sent ∷ later) n) (sends later (incremented n))
   sent_first puts it = (
     record {
@@ -59,7 +59,7 @@ module _ {S : Type 0} (g : Ghosts S) (old new : ArchiveView S) (sent : List ℕ)
       first = first_of it.done it.messages;
       whole = λ ended. absurd (false≢true ended);
     },
-    run_of (AreFirstOf stream) puts it,
+    run_of (AreFirstOfStream stream) puts it,
     ((sent, refl, inl refl), tt, refl),
   )
 

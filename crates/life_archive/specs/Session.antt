@@ -18,7 +18,7 @@ use Rattle.life_desk.specs.Archive.{Archive}
 use Rattle.life_desk.specs.Represents.{EachHasDeposit, Represents, kept_of}
 use Rattle.life_desk.specs.Run.{RequestStep}
 use Rattle.life_pages.specs.Message.{Message, MessageRun, AnswersMessage}
-use Rattle.life_pages.specs.Serving.{AreAllOf, AreFirstOf}
+use Rattle.life_pages.specs.Serving.{AreAllOf, AreFirstOfStream}
 use Rattle.life_pages.specs.ServedArchive.{StoreAnswers, AnswersFirmly, ByArchive, IsLeftOf, IsServedUntil}
 use Rattle.life_jobs.specs.declared.stop.Stop.TheVariants.{Unavailable, Unwritable}
 use Rattle.life_archive.specs.declared.stop.ArchiveStop.{ArchiveStop}
@@ -35,7 +35,7 @@ pub record Exchange : Type 0 where
   pub put : List ℕ
   pub rest : List ℕ
   pub ended : Bool
-  pub first : AreFirstOf sent messages
+  pub first : AreFirstOfStream sent messages
   pub whole : IsTrue ended → AreAllOf sent messages × (rest ≡ [])
 
 -- the messages of all of them, connection after connection

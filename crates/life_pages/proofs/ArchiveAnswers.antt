@@ -6,7 +6,7 @@ use Rattle.life_store.specs.Tables.{ArchiveView}
 use Rattle.life_desk.proofs.Runs.{IsSettled}
 use Rattle.life_pages.specs.declared.pages_fault.IoFault.{IoFault}
 use Rattle.life_pages.specs.Message.{Message, MessageRun, AnswersMessage}
-use Rattle.life_pages.specs.Serving.{AreAllOf, AreFirstOf, Served, RepliesCutShort}
+use Rattle.life_pages.specs.Serving.{AreAllOf, AreFirstOfStream, Served, RepliesCutShort}
 use Rattle.life_pages.specs.ServedArchive.{StoreAnswers, IsAnswered}
 use Rattle.life_pages.proofs.ArchiveRuns.{run_answered, by_taken, left_safely}
 use Rattle.life_pages.proofs.FirmReplies.{firm_run}
@@ -30,9 +30,9 @@ module _ {S : Type 0} (g : Ghosts S) (old new : ArchiveView S) (law : IsSettled 
 
   pub first_answered : (stream x y : Option (List ℕ))
       → RepliesCutShort (AnswersMessage (StoreAnswers g)) stream old new x y
-      → IsAnswered g (AreFirstOf stream) (AppendsSome x y) old new
+      → IsAnswered g (AreFirstOfStream stream) (AppendsSome x y) old new
   first_answered stream x y some =
-      is_answered (AreFirstOf stream) (AppendsSome x y) some.done some.bytes some.messages some.put some.run
+      is_answered (AreFirstOfStream stream) (AppendsSome x y) some.done some.bytes some.messages some.put some.run
 
   pub all_answered : (stream x y : Option (List ℕ)) (r : Result (Unit {0}) IoFault)
       → OnOk r (Served (AnswersMessage (StoreAnswers g)) stream old new x y)

@@ -10,7 +10,7 @@ use Rattle.life_desk.specs.Headline.{HeadlineHolds}
 use Rattle.life_desk.proofs.Representing.{representable_of}
 use Rattle.life_pages.specs.declared.pages_fault.IoFault.{IoFault}
 use Rattle.life_pages.specs.Message.{Message, MessageRun, AnswersMessage}
-use Rattle.life_pages.specs.Serving.{AreAllOf, AreFirstOf, Served, RepliesCutShort}
+use Rattle.life_pages.specs.Serving.{AreAllOf, AreFirstOfStream, Served, RepliesCutShort}
 use Rattle.life_pages.specs.ServedArchive.{ByArchive}
 use Rattle.life_pages.specs.Requests.{requests_of, ServesTheHeadline}
 use Rattle.life_pages.proofs.RequestRuns.{as_requests}
@@ -45,11 +45,11 @@ module _ (law : HeadlineHolds) (are : List Message → Type 0) (puts : List ℕ 
 module _ {S : Type 0} (g : Ghosts S) (law : HeadlineHolds) (stream : Option (List ℕ)) (old new : ArchiveView S)
     (x y : Option (List ℕ)) where
   pub headline_first : ByArchive g (λ A B. RepliesCutShort (AnswersMessage RequestStep) stream A B x y) old new
-      → ByArchive g (ServesTheHeadline (AreFirstOf stream) (AppendsSome x y)) old new
+      → ByArchive g (ServesTheHeadline (AreFirstOfStream stream) (AppendsSome x y)) old new
   headline_first by =
       by_more g (λ A B. RepliesCutShort (AnswersMessage RequestStep) stream A B x y)
-      (ServesTheHeadline (AreFirstOf stream) (AppendsSome x y)) old new
-      (λ A B m b. says law (AreFirstOf stream) (AppendsSome x y) A B b.done b.bytes
+      (ServesTheHeadline (AreFirstOfStream stream) (AppendsSome x y)) old new
+      (λ A B m b. says law (AreFirstOfStream stream) (AppendsSome x y) A B b.done b.bytes
       (representable_of old A m) b.messages b.run b.put) by
 
   pub headline_all : (r : Result (Unit {0}) IoFault)

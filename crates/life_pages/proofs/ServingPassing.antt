@@ -11,9 +11,10 @@ use Rattle.life_rle.specs.Stream.{Appends, AppendsSome}
 use Rattle.life_rle.proofs.StreamLemmas.{appends_more, appends_none, consumes_on}
 use Rattle.life_pages.specs.Head.{Head}
 use Rattle.life_pages.specs.Reply.{bad_bytes}
-use Rattle.life_pages.specs.Message.{Message, bad, Messages, Starts, MessageRun, are_line_breaks}
+use Rattle.life_pages.specs.Message.{Message, bad, Messages, AreFirstMessages, MessageRun, are_line_breaks}
 use Rattle.life_pages.specs.MessageState.{NeverHas}
-use Rattle.life_pages.specs.Serving.{most_takes, most_taken, AreFirstUpTo, Fronts, Served, LastReplyCutShort}
+use Rattle.life_pages.specs.Serving.{most_takes, most_taken, AreFirstUpTo, StreamBeginsWithMessages, Served}
+use Rattle.life_pages.specs.Serving.{LastReplyCutShort}
 use Rattle.life_pages.specs.Serving.{ServedSoFar, ConsumesAtLeast}
 use Rattle.life_pages.specs.ServingState.{HoldsTaken, PassesBlank, PassesThen, IsBlankRest}
 use Rattle.life_pages.proofs.ServingRunning.{front_messages, front_starts, run_then, then_cut}
@@ -127,8 +128,9 @@ one_take start now next n before is = let most = min-le_left (now + 1) last_coun
 
 -- ---- what became of a stream after long blank bytes
 
-fronts_starts_rest : (stream left : Option (List ℕ)) (ms ns : List Message) (held : List ℕ) → Fronts stream ms held left
-    → IfSome left (λ l. Starts (held ++ l) ns) → IfSome stream (λ s. Starts s (ms ++ ns))
+fronts_starts_rest : (stream left : Option (List ℕ)) (ms ns : List Message) (held : List ℕ)
+    → StreamBeginsWithMessages stream ms held left
+    → IfSome left (λ l. AreFirstMessages (held ++ l) ns) → IfSome stream (λ s. AreFirstMessages s (ms ++ ns))
 fronts_starts_rest None left ms ns held f m = tt
 fronts_starts_rest (Some stream) None ms ns held f m = absurd f
 fronts_starts_rest (Some stream) (Some left) ms ns held f m = front_starts stream ms ns (held ++ left) f m
@@ -137,12 +139,12 @@ blank_not : (x y : List ℕ) → are_line_breaks y ≡ false → are_line_breaks
 blank_not x y e = rw (← append-nil y) (other_later x y [] e)
 
 begins_bad : (left : Option (List ℕ)) (held : List ℕ) → IsBlankRest left false → NeverHas held
-    → IfSome left (λ l. Starts (held ++ l) (bad ∷ []))
+    → IfSome left (λ l. AreFirstMessages (held ++ l) (bad ∷ []))
 begins_bad None held rest never = tt
 begins_bad (Some l) held rest never = (blank_not held l rest, never l, refl)
 
 fronts_messages_rest : (stream left : Option (List ℕ)) (ms ns : List Message) (held : List ℕ)
-    → Fronts stream ms held left
+    → StreamBeginsWithMessages stream ms held left
     → IfSome left (λ l. Messages (held ++ l) ns) → IfSome stream (λ s. Messages s (ms ++ ns))
 fronts_messages_rest None left ms ns held f m = tt
 fronts_messages_rest (Some stream) None ms ns held f m = absurd f
@@ -191,7 +193,7 @@ module _ {D : Type 0} (answers : D → Head → List ℕ → List ℕ → D → 
       → LastReplyCutShort answers (AreFirstUpTo stream next most) old new x z
   other_cut {most} stream left next held old new x y z r never rest
       (blank, mid, piece, white, lost, taken, short, few) p =
-      then_cut answers (λ ms. IfSome left (λ l. Starts (held ++ l) ms))
+      then_cut answers (λ ms. IfSome left (λ l. AreFirstMessages (held ++ l) ms))
       (AreFirstUpTo stream next most) r.done r.bytes old new new x y z r.run r.put
       (λ ms last h. (
         fronts_starts_rest stream left r.done (ms ++ last ∷ []) held r.front h,

@@ -6,30 +6,33 @@ use Rattle.life_rle.specs.Stream.{Appends, AppendsSome, Consumes, IsEnded}
 use Rattle.life_rle.proofs.StreamLemmas.{appends_more, appends_none}
 use Rattle.life_rle.specs.declared.stream.Failed.{Failed}
 use Rattle.life_pages.specs.Reply.{bad_bytes}
-use Rattle.life_pages.specs.Message.{Message, bad, Messages, Front, Starts, MessageRun, HasNone, IsAwaited}
+use Rattle.life_pages.specs.Message.{Message, bad, Messages, BeginsWithMessages, AreFirstMessages, MessageRun, HasNone}
+use Rattle.life_pages.specs.Message.{IsAwaited}
 use Rattle.life_pages.specs.Message.{are_line_breaks}
-use Rattle.life_pages.specs.Serving.{AreFirstUpTo, WholeBefore, RepliesCutShort, Served, Fronts, ServedSoFar}
+use Rattle.life_pages.specs.Serving.{AreFirstUpTo, WholeBefore, RepliesCutShort, Served, StreamBeginsWithMessages}
+use Rattle.life_pages.specs.Serving.{ServedSoFar}
 use Rattle.life_pages.specs.Serving.{LastReplyCutShort}
 use Rattle.life_pages.specs.ServingState.{IsServedTo, Ended, HoldsTaken}
 use Rattle.life_pages.proofs.MessageStanding.{not_blank}
 use Rattle.life_pages.proofs.ServingRunning.{front_then, front_append, front_messages, front_starts, messages_first}
 use Rattle.life_pages.proofs.ServingRunning.{front_first, run_then, then_cut}
 
-fronts_none : (stream : Option (List ℕ)) → Fronts stream [] [] stream
+fronts_none : (stream : Option (List ℕ)) → StreamBeginsWithMessages stream [] [] stream
 fronts_none None = tt
 fronts_none (Some stream) = refl
 
-fronts_then : (stream left : Option (List ℕ)) (ms ns : List Message) (held rest : List ℕ) → Fronts stream ms held left
-    → Front held ns rest
-    → Fronts stream (ms ++ ns) rest left
+fronts_then : (stream left : Option (List ℕ)) (ms ns : List Message) (held rest : List ℕ)
+    → StreamBeginsWithMessages stream ms held left
+    → BeginsWithMessages held ns rest
+    → StreamBeginsWithMessages stream (ms ++ ns) rest left
 fronts_then None left ms ns held rest f h = tt
 fronts_then (Some stream) None ms ns held rest f h = absurd f
 fronts_then (Some stream) (Some left) ms ns held rest f h =
     front_then stream ms ns (held ++ left) (rest ++ left) f (front_append held ns rest left h)
 
 pub fronts_more : (stream left next : Option (List ℕ)) (ms : List Message) (held some all : List ℕ)
-    → Fronts stream ms held left → Consumes left next some
-    → all ≡ held ++ some → Fronts stream ms all next
+    → StreamBeginsWithMessages stream ms held left → Consumes left next some
+    → all ≡ held ++ some → StreamBeginsWithMessages stream ms all next
 fronts_more None left next ms held some all f l e = tt
 fronts_more (Some stream) None next ms held some all f l e = absurd f
 fronts_more (Some stream) (Some left) None ms held some all f l e = absurd l
@@ -38,13 +41,15 @@ fronts_more (Some stream) (Some left) (Some next) ms held some all f l e =
     ∙ ap (λ (x : List ℕ). x ++ next) (sym e) in
     rw (← same) f
 
-fronts_ended : (stream left : Option (List ℕ)) (ms ns : List Message) (held : List ℕ) → Fronts stream ms held left
+fronts_ended : (stream left : Option (List ℕ)) (ms ns : List Message) (held : List ℕ)
+    → StreamBeginsWithMessages stream ms held left
     → ((more : List ℕ) → Messages (held ++ more) ns) → IfSome stream (λ s. Messages s (ms ++ ns))
 fronts_ended None left ms ns held f m = tt
 fronts_ended (Some stream) None ms ns held f m = absurd f
 fronts_ended (Some stream) (Some left) ms ns held f m = front_messages stream ms ns (held ++ left) f (m left)
 
-fronts_end : (stream left : Option (List ℕ)) (ms ns : List Message) (held : List ℕ) → Fronts stream ms held left
+fronts_end : (stream left : Option (List ℕ)) (ms ns : List Message) (held : List ℕ)
+    → StreamBeginsWithMessages stream ms held left
     → IsEnded left → Messages held ns
     → IfSome stream (λ s. Messages s (ms ++ ns))
 fronts_end None left ms ns held f e m = tt
@@ -53,12 +58,13 @@ fronts_end (Some stream) (Some left) ms ns held f e m =
     front_messages stream ms ns (held ++ left) f (rw (e, append-nil held) m)
 
 all_first : (stream : Option (List ℕ)) (ms : List Message) → IfSome stream (λ s. Messages s ms)
-    → IfSome stream (λ s. Starts s ms)
+    → IfSome stream (λ s. AreFirstMessages s ms)
 all_first None ms m = tt
 all_first (Some stream) ms m = messages_first stream ms m
 
-fronts_first : (stream left : Option (List ℕ)) (ms : List Message) (held : List ℕ) → Fronts stream ms held left
-    → IfSome stream (λ s. Starts s ms)
+fronts_first : (stream left : Option (List ℕ)) (ms : List Message) (held : List ℕ)
+    → StreamBeginsWithMessages stream ms held left
+    → IfSome stream (λ s. AreFirstMessages s ms)
 fronts_first None left ms held f = tt
 fronts_first (Some stream) None ms held f = absurd f
 fronts_first (Some stream) (Some left) ms held f = front_first stream ms (held ++ left) f
@@ -68,7 +74,7 @@ module _ {D : Type 0} (answers : D → Head → List ℕ → List ℕ → D → 
       (before after : Option (List ℕ)) : Type 0 where
     pub done : List Message
     pub bytes : List ℕ
-    pub front : Fronts stream done held left
+    pub front : StreamBeginsWithMessages stream done held left
     pub run : MessageRun answers old done bytes new
     pub put : Appends before after bytes
 
@@ -191,15 +197,16 @@ pub reading_failed : {D : Type 0} (answers : D → Head → List ℕ → List �
 reading_failed answers stream left next held all old new x y r l =
     reading_more answers stream left next held [] held old new x y r l (sym (append-nil held))
 
-fronts_starts : (stream left : Option (List ℕ)) (ms ns : List Message) (held : List ℕ) → Fronts stream ms held left
-    → ((more : List ℕ) → Starts (held ++ more) ns) → IfSome stream (λ s. Starts s (ms ++ ns))
+fronts_starts : (stream left : Option (List ℕ)) (ms ns : List Message) (held : List ℕ)
+    → StreamBeginsWithMessages stream ms held left
+    → ((more : List ℕ) → AreFirstMessages (held ++ more) ns) → IfSome stream (λ s. AreFirstMessages s (ms ++ ns))
 fronts_starts None left ms ns held f m = tt
 fronts_starts (Some stream) None ms ns held f m = absurd f
 fronts_starts (Some stream) (Some left) ms ns held f m = front_starts stream ms ns (held ++ left) f (m left)
 
 fronts_starts_end : (stream left : Option (List ℕ)) (ms ns : List Message) (held : List ℕ)
-    → Fronts stream ms held left → IsEnded left
-    → Starts held ns → IfSome stream (λ s. Starts s (ms ++ ns))
+    → StreamBeginsWithMessages stream ms held left → IsEnded left
+    → AreFirstMessages held ns → IfSome stream (λ s. AreFirstMessages s (ms ++ ns))
 fronts_starts_end None left ms ns held f e m = tt
 fronts_starts_end (Some stream) None ms ns held f e m = absurd f
 fronts_starts_end (Some stream) (Some left) ms ns held f e m =
@@ -208,7 +215,7 @@ fronts_starts_end (Some stream) (Some left) ms ns held f e m =
 -- ---- what was taken before the last take
 
 pub whole_before : {most : ℕ} (stream left before : Option (List ℕ)) (done ms : List Message)
-    (last : Message) (held piece : List ℕ) → Fronts stream done held before → HasNone held
+    (last : Message) (held piece : List ℕ) → StreamBeginsWithMessages stream done held before → HasNone held
     → Consumes before left piece → (length piece ≤ 4096) × (length piece ≤ most)
     → WholeBefore stream left most (done ++ (ms ++ last ∷ []))
 whole_before stream left before done [] last held piece whole none taken short =
@@ -257,7 +264,7 @@ module _ {D : Type 0} (answers : D → Head → List ℕ → List ℕ → D → 
     pub put : Appends x y bytes
     pub before : Option (List ℕ)
     pub kept : List ℕ
-    pub whole : Fronts stream done kept before
+    pub whole : StreamBeginsWithMessages stream done kept before
     pub none : HasNone kept
     pub piece : List ℕ
     pub taken : Consumes before left piece
@@ -310,10 +317,10 @@ module _ {D : Type 0} (answers : D → Head → List ℕ → List ℕ → D → 
 
   pub reached_cut : {most : ℕ} (stream left : Option (List ℕ)) (held : List ℕ) (old mid new : D)
       (x y z : Option (List ℕ)) → Reached stream left most held old mid x y
-      → LastReplyCutShort answers (λ ms. (more : List ℕ) → Starts (held ++ more) ms) mid new y z
+      → LastReplyCutShort answers (λ ms. (more : List ℕ) → AreFirstMessages (held ++ more) ms) mid new y z
       → LastReplyCutShort answers (AreFirstUpTo stream left most) old new x z
   reached_cut {most} stream left held old mid new x y z r c =
-      then_cut answers (λ ms. (more : List ℕ) → Starts (held ++ more) ms)
+      then_cut answers (λ ms. (more : List ℕ) → AreFirstMessages (held ++ more) ms)
       (AreFirstUpTo stream left most) r.done r.bytes old mid new x y z r.run r.put
       (λ ms last h. (
         fronts_starts stream left r.done (ms ++ last ∷ []) held
@@ -324,10 +331,10 @@ module _ {D : Type 0} (answers : D → Head → List ℕ → List ℕ → D → 
   pub reading_cut_end : {most : ℕ} (stream left next : Option (List ℕ)) (held piece : List ℕ)
       (old mid new : D) (x y z : Option (List ℕ)) → Reading answers stream left held old mid x y
       → IsEnded left → HasNone held → Consumes left next piece → (length piece ≤ 4096) × (length piece ≤ most)
-      → LastReplyCutShort answers (λ ms. Starts held ms) mid new y z
+      → LastReplyCutShort answers (λ ms. AreFirstMessages held ms) mid new y z
       → LastReplyCutShort answers (AreFirstUpTo stream next most) old new x z
   reading_cut_end {most} stream left next held piece old mid new x y z r e none taken short c =
-      then_cut answers (λ ms. Starts held ms)
+      then_cut answers (λ ms. AreFirstMessages held ms)
       (AreFirstUpTo stream next most) r.done r.bytes old mid new x y z r.run r.put
       (λ ms last h. (
         fronts_starts_end stream left r.done (ms ++ last ∷ []) held r.front e h,
@@ -337,7 +344,7 @@ module _ {D : Type 0} (answers : D → Head → List ℕ → List ℕ → D → 
   -- the last message, cut short by the end of the input
   pub bad_cut : (held : List ℕ) (desk : D) (x y : Option (List ℕ)) → are_line_breaks held ≡ false
       → HasNone held → AppendsSome x y bad_bytes
-      → LastReplyCutShort answers (λ ms. Starts held ms) desk desk x y
+      → LastReplyCutShort answers (λ ms. AreFirstMessages held ms) desk desk x y
   bad_cut held desk x y b n p = record {
     done = [];
     last = bad;

@@ -7,7 +7,8 @@ use Rattle.life_pages.specs.Head.{Head}
 use Rattle.life_rle.specs.Stream.{Appends, AppendsSome}
 use Rattle.life_rle.proofs.StreamLemmas.{appends_more, appends_none}
 use Rattle.life_pages.specs.Reply.{bad_bytes}
-use Rattle.life_pages.specs.Message.{Message, good, bad, Messages, Front, Starts, MessageRun, HasMessageInFront}
+use Rattle.life_pages.specs.Message.{Message, good, bad, Messages, BeginsWithMessages, AreFirstMessages, MessageRun}
+use Rattle.life_pages.specs.Message.{HasMessageInFront}
 use Rattle.life_pages.specs.Message.{are_line_breaks}
 use Rattle.life_pages.specs.MessageState.{NeverHas}
 use Rattle.life_pages.specs.Serving.{AreFirstUpTo, RepliesCutShort, LastReplyCutShort}
@@ -29,14 +30,15 @@ stands_append bytes parsed body rest more s =
       whole = s.whole;
     }
 
-pub front_append : (bytes : List ℕ) (ms : List Message) (rest more : List ℕ) → Front bytes ms rest
-    → Front (bytes ++ more) ms (rest ++ more)
+pub front_append : (bytes : List ℕ) (ms : List Message) (rest more : List ℕ) → BeginsWithMessages bytes ms rest
+    → BeginsWithMessages (bytes ++ more) ms (rest ++ more)
 front_append bytes [] rest more f = ap (λ (l : List ℕ). l ++ more) f
 front_append bytes (bad ∷ ms) rest more f = absurd f
 front_append bytes (good parsed body ∷ ms) rest more f =
     (f.0 ++ more, stands_append bytes parsed body f.0 more f.1, f.2, front_append f.0 ms rest more f.3)
 
-pub front_then : (a : List ℕ) (ms ns : List Message) (b c : List ℕ) → Front a ms b → Front b ns c → Front a (ms ++ ns) c
+pub front_then : (a : List ℕ) (ms ns : List Message) (b c : List ℕ) → BeginsWithMessages a ms b
+    → BeginsWithMessages b ns c → BeginsWithMessages a (ms ++ ns) c
 front_then a [] ns b c f h = rw f h
 front_then a (bad ∷ ms) ns b c f h = absurd f
 front_then a (good parsed body ∷ ms) ns b c f h = (f.0, f.1, f.2, front_then f.0 ms ns b c f.3 h)
@@ -44,7 +46,7 @@ front_then a (good parsed body ∷ ms) ns b c f h = (f.0, f.1, f.2, front_then f
 closes_not : (b : Bool) (P : Type 0) → b ≡ false → b ≡ true → P
 closes_not b P e f = let bad : false ≡ true = sym e ∙ f in absurd (cc)
 
-pub front_messages : (a : List ℕ) (ms ns : List Message) (b : List ℕ) → Front a ms b → Messages b ns
+pub front_messages : (a : List ℕ) (ms ns : List Message) (b : List ℕ) → BeginsWithMessages a ms b → Messages b ns
     → Messages a (ms ++ ns)
 front_messages a [] ns b f m = rw f m
 front_messages a (bad ∷ ms) ns b f m = absurd f
@@ -118,7 +120,7 @@ module _ {D : Type 0} (answers : D → Head → List ℕ → List ℕ → D → 
   pub cut_one : (held : List ℕ) (parsed : Head) (body rest : List ℕ) (old new : D) (reply : List ℕ)
       (before after : Option (List ℕ))
       → HasMessageInFront held parsed body rest → answers old parsed body reply new → AppendsSome before after reply
-      → LastReplyCutShort answers (λ ms. (more : List ℕ) → Starts (held ++ more) ms) old new before after
+      → LastReplyCutShort answers (λ ms. (more : List ℕ) → AreFirstMessages (held ++ more) ms) old new before after
   cut_one held parsed body rest old new reply before after s a p = record {
     done = [];
     last = good parsed body;
@@ -135,7 +137,7 @@ module _ {D : Type 0} (answers : D → Head → List ℕ → List ℕ → D → 
 
   pub cut_bad : (held : List ℕ) (old : D) (before after : Option (List ℕ)) → NeverHas held
       → are_line_breaks held ≡ false → AppendsSome before after bad_bytes
-      → LastReplyCutShort answers (λ ms. (more : List ℕ) → Starts (held ++ more) ms) old old before after
+      → LastReplyCutShort answers (λ ms. (more : List ℕ) → AreFirstMessages (held ++ more) ms) old old before after
   cut_bad held old before after never not_blank p = record {
     done = [];
     last = bad;
@@ -154,19 +156,20 @@ module _ {D : Type 0} (answers : D → Head → List ℕ → List ℕ → D → 
     some = p;
   }
 
-pub front_starts : (a : List ℕ) (ms ns : List Message) (b : List ℕ) → Front a ms b → Starts b ns → Starts a (ms ++ ns)
+pub front_starts : (a : List ℕ) (ms ns : List Message) (b : List ℕ) → BeginsWithMessages a ms b → AreFirstMessages b ns
+    → AreFirstMessages a (ms ++ ns)
 front_starts a [] ns b f m = rw f m
 front_starts a (bad ∷ ms) ns b f m = absurd f
 front_starts a (good parsed body ∷ ms) ns b f m =
     (f.0, f.1, (λ t. closes_not parsed.closes _ f.2 t), (λ _. front_starts f.0 ms ns b f.3 m))
 
 -- what a whole stream has, it begins with
-pub messages_first : (bytes : List ℕ) (ms : List Message) → Messages bytes ms → Starts bytes ms
+pub messages_first : (bytes : List ℕ) (ms : List Message) → Messages bytes ms → AreFirstMessages bytes ms
 messages_first bytes [] m = tt
 messages_first bytes (bad ∷ ms) m = m
 messages_first bytes (good parsed body ∷ ms) m = (m.0, m.1, m.2, λ transition. messages_first m.0 ms (m.3 transition))
 
-pub front_first : (a : List ℕ) (ms : List Message) (b : List ℕ) → Front a ms b → Starts a ms
+pub front_first : (a : List ℕ) (ms : List Message) (b : List ℕ) → BeginsWithMessages a ms b → AreFirstMessages a ms
 front_first a [] b f = tt
 front_first a (bad ∷ ms) b f = absurd f
 front_first a (good parsed body ∷ ms) b f =
@@ -222,11 +225,11 @@ module _ {D : Type 0} (answers : D → Head → List ℕ → List ℕ → D → 
   }
 
   pub served_to_cut : (a b : List ℕ) (old mid new : D) (x y z : Option (List ℕ)) → IsServedTo answers a b old mid x y
-      → LastReplyCutShort answers (λ ms. (more : List ℕ) → Starts (b ++ more) ms) mid new y z
-      → LastReplyCutShort answers (λ ms. (more : List ℕ) → Starts (a ++ more) ms) old new x z
+      → LastReplyCutShort answers (λ ms. (more : List ℕ) → AreFirstMessages (b ++ more) ms) mid new y z
+      → LastReplyCutShort answers (λ ms. (more : List ℕ) → AreFirstMessages (a ++ more) ms) old new x z
   served_to_cut a b old mid new x y z f c =
-      then_cut (λ ms. (more : List ℕ) → Starts (b ++ more) ms)
-      (λ ms. (more : List ℕ) → Starts (a ++ more) ms) f.done f.bytes old mid new x y z f.run f.put
+      then_cut (λ ms. (more : List ℕ) → AreFirstMessages (b ++ more) ms)
+      (λ ms. (more : List ℕ) → AreFirstMessages (a ++ more) ms) f.done f.bytes old mid new x y z f.run f.put
       (λ ms last h more. front_starts (a ++ more) f.done (ms ++ last ∷ []) (b ++ more)
       (front_append a f.done b more f.front) (h more)) c
 

@@ -65,19 +65,19 @@ Messages bytes (good parsed body ∷ ms) =
     × (parsed.closes ≡ true → ms ≡ []) × (parsed.closes ≡ false → Messages rest ms)
 
 -- these messages are at the front, none of them closes the connection, and the rest follows
-abbrev pub Front : List ℕ → List Message → List ℕ → Type 0
-Front bytes [] rest = bytes ≡ rest
-Front bytes (bad ∷ ms) rest = ⊥
-Front bytes (good parsed body ∷ ms) rest =
-    (mid : List ℕ) × HasMessageInFront bytes parsed body mid × (parsed.closes ≡ false) × Front mid ms rest
+abbrev pub BeginsWithMessages : List ℕ → List Message → List ℕ → Type 0
+BeginsWithMessages bytes [] rest = bytes ≡ rest
+BeginsWithMessages bytes (bad ∷ ms) rest = ⊥
+BeginsWithMessages bytes (good parsed body ∷ ms) rest =
+    (mid : List ℕ) × HasMessageInFront bytes parsed body mid × (parsed.closes ≡ false) × BeginsWithMessages mid ms rest
 
 -- these messages are at the front; the last of them may close the connection or be bad
-abbrev pub Starts : List ℕ → List Message → Type 0
-Starts bytes [] = Unit {0}
-Starts bytes (bad ∷ ms) = (are_line_breaks bytes ≡ false) × HasNone bytes × (ms ≡ [])
-Starts bytes (good parsed body ∷ ms) =
+abbrev pub AreFirstMessages : List ℕ → List Message → Type 0
+AreFirstMessages bytes [] = Unit {0}
+AreFirstMessages bytes (bad ∷ ms) = (are_line_breaks bytes ≡ false) × HasNone bytes × (ms ≡ [])
+AreFirstMessages bytes (good parsed body ∷ ms) =
     (rest : List ℕ) × HasMessageInFront bytes parsed body rest
-    × (parsed.closes ≡ true → ms ≡ []) × (parsed.closes ≡ false → Starts rest ms)
+    × (parsed.closes ≡ true → ms ≡ []) × (parsed.closes ≡ false → AreFirstMessages rest ms)
 
 -- a run from old over messages puts these bytes and ends at new
 module _ {D : Type 0} (answers : D → Head → List ℕ → List ℕ → D → Type 0) where

@@ -6,7 +6,8 @@ use Rattle.life_rle.specs.declared.stream.Outlet as outlet
 use Rattle.life_rle.specs.Stream.{incremented, EndsLast, FailedBetween, FailsLast, Consumes, ConsumesUpTo}
 use Rattle.life_rle.specs.Stream.{Appends, AppendsSome}
 use Rattle.life_pages.specs.Head.{Head}
-use Rattle.life_pages.specs.Message.{Message, Messages, Front, Starts, MessageRun, HasNone, IsAwaited}
+use Rattle.life_pages.specs.Message.{Message, Messages, BeginsWithMessages, AreFirstMessages, MessageRun, HasNone}
+use Rattle.life_pages.specs.Message.{IsAwaited}
 use Rattle.life_pages.specs.declared.pages_fault.IoFault.{IoFault}
 use Rattle.life_pages.specs.declared.pages_fault.IoFault.TheVariants.{Read, Write, TooManyReads, Memory}
 
@@ -23,8 +24,8 @@ abbrev pub AreAllOf : Option (List ℕ) → List Message → Type 0
 AreAllOf stream ms = IfSome stream (λ bytes. Messages bytes ms)
 
 -- the first of them; the last one may close the connection or be bad
-abbrev pub AreFirstOf : Option (List ℕ) → List Message → Type 0
-AreFirstOf stream ms = IfSome stream (λ bytes. Starts bytes ms)
+abbrev pub AreFirstOfStream : Option (List ℕ) → List Message → Type 0
+AreFirstOfStream stream ms = IfSome stream (λ bytes. AreFirstMessages bytes ms)
 
 module _ {D : Type 0} (answers : D → Head → List ℕ → List ℕ → D → Type 0) where
   -- messages were answered: the replies to all but the last were put whole, and of the last a beginning
@@ -52,17 +53,18 @@ module _ {D : Type 0} (answers : D → Head → List ℕ → List ℕ → D → 
 
   -- the first messages of a stream were answered, and a prefix of their replies was put
   abbrev pub RepliesCutShort : Option (List ℕ) → D → D → Option (List ℕ) → Option (List ℕ) → Type 0
-  RepliesCutShort stream old new before after = ServedMessages (AreFirstOf stream) (AppendsSome before after) old new
+  RepliesCutShort stream old new before after =
+      ServedMessages (AreFirstOfStream stream) (AppendsSome before after) old new
 
   -- all the messages of a stream were answered, and their replies were put
   abbrev pub Served : Option (List ℕ) → D → D → Option (List ℕ) → Option (List ℕ) → Type 0
   Served stream old new before after = ServedMessages (AreAllOf stream) (Appends before after) old new
 
 -- the messages are at the front of a stream of known bytes, before what is held and what is left
-abbrev pub Fronts : Option (List ℕ) → List Message → List ℕ → Option (List ℕ) → Type 0
-Fronts None done held left = Unit {0}
-Fronts (Some stream) done held None = ⊥
-Fronts (Some stream) done held (Some left) = Front stream done (held ++ left)
+abbrev pub StreamBeginsWithMessages : Option (List ℕ) → List Message → List ℕ → Option (List ℕ) → Type 0
+StreamBeginsWithMessages None done held left = Unit {0}
+StreamBeginsWithMessages (Some stream) done held None = ⊥
+StreamBeginsWithMessages (Some stream) done held (Some left) = BeginsWithMessages stream done (held ++ left)
 
 -- Without the last take, of this many bytes and at most 4,096, the bytes taken held no whole message that is not one of
 -- the first of these; and that is not all of them.
@@ -73,7 +75,7 @@ pub record WholeBefore (stream left : Option (List ℕ)) (last : ℕ) (ms : List
   pub all : ms ≡ front ++ next ∷ more
   pub before : Option (List ℕ)
   pub held : List ℕ
-  pub whole : Fronts stream front held before
+  pub whole : StreamBeginsWithMessages stream front held before
   pub none : HasNone held
   pub piece : List ℕ
   pub taken : Consumes before left piece
@@ -82,7 +84,7 @@ pub record WholeBefore (stream left : Option (List ℕ)) (last : ℕ) (ms : List
 -- the first messages of a stream, all but the last of which were answered before the last take, if they had come
 -- completely
 abbrev pub AreFirstUpTo : Option (List ℕ) → Option (List ℕ) → ℕ → List Message → Type 0
-AreFirstUpTo stream left last ms = AreFirstOf stream ms × WholeBefore stream left last ms
+AreFirstUpTo stream left last ms = AreFirstOfStream stream ms × WholeBefore stream left last ms
 
 module _ {D : Type 0} (answers : D → Head → List ℕ → List ℕ → D → Type 0) where
   -- all the messages that were taken whole were answered, good or bad, and their replies were put
@@ -90,7 +92,7 @@ module _ {D : Type 0} (answers : D → Head → List ℕ → List ℕ → D → 
     pub done : List Message
     pub bytes : List ℕ
     pub held : List ℕ
-    pub front : Fronts stream done held left
+    pub front : StreamBeginsWithMessages stream done held left
     pub none : HasNone held
     pub awaited : IsAwaited held
     pub run : MessageRun answers old done bytes new

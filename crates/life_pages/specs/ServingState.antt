@@ -9,7 +9,8 @@ use Rattle.life_pages.specs.declared.serving.Step.TheVariants.{Wants, Goes, Ends
 use Rattle.life_pages.specs.declared.serving.AfterBlank.{AfterBlank}
 use Rattle.life_pages.specs.declared.serving.AfterBlank.TheVariants as after_blank
 use Rattle.life_pages.specs.Head.{Head}
-use Rattle.life_pages.specs.Message.{Message, Messages, Front, Starts, MessageRun, are_line_breaks}
+use Rattle.life_pages.specs.Message.{Message, Messages, BeginsWithMessages, AreFirstMessages, MessageRun}
+use Rattle.life_pages.specs.Message.{are_line_breaks}
 use Rattle.life_pages.specs.MessageState.{IsWanting}
 use Rattle.life_pages.specs.Reply.{bad_bytes}
 use Rattle.life_pages.specs.Serving.{most_takes, AreFirstUpTo, LastReplyCutShort, Served, ServedSoFar, ConsumesAtLeast}
@@ -26,7 +27,7 @@ module _ {D : Type 0} (answers : D → Head → List ℕ → List ℕ → D → 
   pub record IsServedTo (held rest : List ℕ) (old new : D) (before after : Option (List ℕ)) : Type 0 where
     pub done : List Message
     pub bytes : List ℕ
-    pub front : Front held done rest
+    pub front : BeginsWithMessages held done rest
     pub run : MessageRun answers old done bytes new
     pub put : Appends before after bytes
 
@@ -47,7 +48,7 @@ module _ {D : Type 0} (answers : D → Head → List ℕ → List ℕ → D → 
       IsServedTo held rest old new before after × (length rest < length held)
   IsStep (Ok Ends) held rest old new before after = Ended held old new before after
   IsStep (Err e) held rest old new before after =
-      LastReplyCutShort answers (λ ms. (more : List ℕ) → Starts (held ++ more) ms) old new before after
+      LastReplyCutShort answers (λ ms. (more : List ℕ) → AreFirstMessages (held ++ more) ms) old new before after
 
   -- all the messages that are held
   abbrev pub IsHeldServed : {E : Type 0} → Result Bool E → List ℕ → List ℕ → D → D → Option (List ℕ)
@@ -56,13 +57,13 @@ module _ {D : Type 0} (answers : D → Head → List ℕ → List ℕ → D → 
       IsServedTo held rest old new before after × IsWanting rest
   IsHeldServed (Ok true) held rest old new before after = Ended held old new before after
   IsHeldServed (Err e) held rest old new before after =
-      LastReplyCutShort answers (λ ms. (more : List ℕ) → Starts (held ++ more) ms) old new before after
+      LastReplyCutShort answers (λ ms. (more : List ℕ) → AreFirstMessages (held ++ more) ms) old new before after
 
   -- at the end of the input
   abbrev pub AtEnd : Result (Unit {0}) IoFault → List ℕ → D → Option (List ℕ) → Option (List ℕ) → Type 0
   AtEnd (Ok u) held desk before after = Served answers (Some held) desk desk before after
   AtEnd (Err faults.Write) held desk before after =
-      LastReplyCutShort answers (λ ms. Starts held ms) desk desk before after
+      LastReplyCutShort answers (λ ms. AreFirstMessages held ms) desk desk before after
   AtEnd (Err faults.Read) held desk before after = ⊥
   AtEnd (Err faults.TooManyReads) held desk before after = ⊥
   AtEnd (Err faults.Memory) held desk before after = ⊥

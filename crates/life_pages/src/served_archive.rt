@@ -3,7 +3,7 @@ ghost use Rattle.std.specs.Prelude.{◌≡◌, Err, OnOk};
 ghost use Rattle.life_rle.specs.Stream.{Appends, AppendsSome};
 ghost use Rattle.life_desk.specs.Run.{RequestStep};
 ghost use Rattle.life_pages.specs.Message.{AnswersMessage};
-ghost use Rattle.life_pages.specs.Serving.{AreAllOf, AreFirstOf, IsServed, RepliesCutShort, UsesStreams};
+ghost use Rattle.life_pages.specs.Serving.{AreAllOf, AreFirstOfStream, IsServed, RepliesCutShort, UsesStreams};
 ghost use Rattle.life_pages.specs.ServedArchive.{AnswersFirmly, ByArchive, InMemory, IsAnswered, IsServedSafely};
 ghost use Rattle.life_pages.specs.Requests.{ServesTheHeadline};
 
@@ -46,12 +46,12 @@ pub fn serve<S: Alter, I: Inlet, O: Outlet>(
     // Of one list of messages and one of their replies' bytes: the store answered the first messages of the stream, each archive that it represented went through a
     // run over them, a request that is refused for its own words is answered by that refusal, whatever the database does, and a crash during the call leaves
     // the archive after a prefix of them or one more; and a prefix of the bytes was put.
-    ensures steps { IsAnswered S.Store (AreFirstOf (I.to_come input.old)) (AppendsSome (O.already output.old) (O.already output.new)) archive.old archive.new }
+    ensures steps { IsAnswered S.Store (AreFirstOfStream (I.to_come input.old)) (AppendsSome (O.already output.old) (O.already output.new)) archive.old archive.new }
     // On Ok they are all messages, and all bytes were put.
     ensures whole { OnOk result (IsAnswered S.Store (AreAllOf (I.to_come input.old)) (Appends (O.already output.old) (O.already output.new)) archive.old archive.new) }
     // What was answered says of sets of live cells what it should, of all messages or, whatever the answer, of the first of them.
     ensures headline { OnOk result (ByArchive S.Store (ServesTheHeadline (AreAllOf (I.to_come input.old)) (Appends (O.already output.old) (O.already output.new))) archive.old archive.new) }
-    ensures headlines { ByArchive S.Store (ServesTheHeadline (AreFirstOf (I.to_come input.old)) (AppendsSome (O.already output.old) (O.already output.new))) archive.old archive.new }
+    ensures headlines { ByArchive S.Store (ServesTheHeadline (AreFirstOfStream (I.to_come input.old)) (AppendsSome (O.already output.old) (O.already output.new))) archive.old archive.new }
     // Whatever the database does: a request that is refused for its own words (member, token, limits, rule) is answered by that refusal, and
     // unavailable never comes in its place; and each other message of the first of them by the bytes of its refusal or of a reply.
     ensures own_refusals { RepliesCutShort (AnswersMessage AnswersFirmly) (I.to_come input.old) tt tt (O.already output.old) (O.already output.new) }
@@ -75,7 +75,7 @@ pub fn serve_in_memory<I: Inlet, O: Outlet>(
 ) -> Result<(), IoFault>
     ensures served { IsServed (AnswersMessage RequestStep) (λ P. InMemory P archive.old archive.new) I.Inlet O.Outlet input.old input.new output.old output.new result }
     ensures headline { OnOk result (InMemory (ServesTheHeadline (AreAllOf (I.to_come input.old)) (Appends (O.already output.old) (O.already output.new))) archive.old archive.new) }
-    ensures headlines { InMemory (ServesTheHeadline (AreFirstOf (I.to_come input.old)) (AppendsSome (O.already output.old) (O.already output.new))) archive.old archive.new }
+    ensures headlines { InMemory (ServesTheHeadline (AreFirstOfStream (I.to_come input.old)) (AppendsSome (O.already output.old) (O.already output.new))) archive.old archive.new }
     ensures memory { result ≡ Err IoFault.Memory → (archive.new ≡ archive.old) × (input.new ≡ input.old) × (output.new ≡ output.old) }
 {
     let served = serve(alloc, archive, input, output);

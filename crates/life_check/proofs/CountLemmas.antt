@@ -21,7 +21,7 @@ use Rattle.life_store.specs.Stored.{counts_from}
 use Rattle.life_store.specs.Tables.{HasOrder}
 use Rattle.life_desk.specs.Archive.{AddsUp, tally_for, steady_for}
 use Rattle.life_desk.specs.Represents.{tallied}
-use Rattle.life_check.specs.ReadState.{count_row, census_row, census_row_of, flag_row, flag_row_of, IsAskable}
+use Rattle.life_check.specs.ReadState.{count_row, census_row, census_row_of, flag_row, flag_row_of, IsValidCensus}
 use Rattle.life_check.specs.CountState.{IsCounted, AreCounted, AreFiled, Takes, TakesClusters, HasCounted}
 use Rattle.life_check.specs.CountState.{Follows}
 use Rattle.life_check.proofs.WalkLemmas.{rows_push, append_none, many_push, good_push, some_is}
@@ -353,7 +353,7 @@ some_of (Some x) there = (x, refl)
 
 -- a census that has some tally and some flag, whose row, rows and flag were met
 pub follows_uncounted : (ds : List Deposit) (id before more : ℕ) (row : Row) (a b m z : View)
-    (C : Census) (total unresolved clusters : ℕ) (s : Bool) → IsAskable C → IsSome (numbered ds C.deposit)
+    (C : Census) (total unresolved clusters : ℕ) (s : Bool) → IsValidCensus C → IsSome (numbered ds C.deposit)
     → clusters + unresolved ≡ total
     → row ≡ census_row_of id C total unresolved → b ≡ a → TakesClusters id clusters before more b m
     → Takes 2 (flag_row_of id s ∷ []) m z → Follows true ds id before more row a z
@@ -425,7 +425,7 @@ length_mapped f (x ∷ xs) = omega (arith, length_mapped f xs)
 -- a census that was counted anew, whose row, rows and flag were met
 pub follows : {R : Type 0} (seen : R → Counted) (ds : List Deposit) (id before more : ℕ) (row : Row)
     (a b m z : View) (C : Census) (d : Deposit) (T : TallyCounts) (s : Bool) (rs : List R)
-    → IsAskable C → Some d ≡ numbered ds C.deposit → T ≡ tally_for C (Some d) → s ≡ steady_for C (Some d)
+    → IsValidCensus C → Some d ≡ numbered ds C.deposit → T ≡ tally_for C (Some d) → s ≡ steady_for C (Some d)
     → HasOrder T → AddsUp T → row ≡ census_row_of id C T.total T.unresolved → b ≡ a → map seen rs ≡ T.rows
     → (more ≡ before + length rs) × Takes 1 (rows_by count_cells (before + 1) (tagged id (map seen rs))) b m
     → Takes 2 (flag_row_of id s ∷ []) m z → Follows false ds id before more row a z

@@ -17,7 +17,7 @@ use Rattle.life_store.specs.Stored.{IsFiled, deposit_cells}
 use Rattle.life_store.specs.Tables.{Tables, ArchiveView, HasOrder, Holds}
 use Rattle.life_desk.specs.Archive.{Archive, AddsUp, tally_for}
 use Rattle.life_desk.specs.Represents.{tallied, Represents, EachHasDeposit}
-use Rattle.life_check.specs.ReadState.{AreNames, IsAskable, IsNamed, IsFirstWrong}
+use Rattle.life_check.specs.ReadState.{AreNames, IsValidCensus, IsNamed, IsFirstWrong}
 use Rattle.life_check.specs.CountState.{AreSome, IsTallied, IsCounted, AreCounted, IsFirstWrongCensus}
 use Rattle.sqlite_schema.specs.declared.schema.Constraint.TheVariants.{Unique}
 use Rattle.sqlite_schema.specs.Rules.{Keeps}
@@ -45,7 +45,7 @@ each_there quick ds [] all = tt
 each_there quick ds (t ∷ ts) all = (subst IsSome (sym all.0.there) refl, each_there quick ds ts all.1)
 
 all_askable : (quick : Bool) (ds : List Deposit) (ts : List Tallied) → AllByRecursion (IsCounted quick ds) ts
-    → AllByRecursion IsAskable (map (λ (t : Tallied). t.census) ts)
+    → AllByRecursion IsValidCensus (map (λ (t : Tallied). t.census) ts)
 all_askable quick ds [] all = tt
 all_askable quick ds (t ∷ ts) all = (all.0.askable, all_askable quick ds ts all.1)
 
@@ -198,7 +198,7 @@ tally_is_some c (Some d) =
     (clusters_of (generation_of d.content.rule d.content.cells c.generation)) in
     all_some (occurrences_of codes) (λ code n it. ((rows_are_counts codes code n).0 it).1)
 
-all_tallied : (ds : List Deposit) (cs : List Census) → EachHasDeposit ds cs → AllByRecursion IsAskable cs
+all_tallied : (ds : List Deposit) (cs : List Census) → EachHasDeposit ds cs → AllByRecursion IsValidCensus cs
     → AllByRecursion (IsTallied ds) (map (tallied ds) cs)
 all_tallied ds [] each askable = tt
 all_tallied ds (c ∷ cs) each askable = (

@@ -15,12 +15,12 @@ use Rattle.life_desk.specs.Archive.{AddsUp}
 use Rattle.life_desk.specs.Represents.{tallied}
 use Rattle.life_check.specs.declared.walk.FoundCensuses.{FoundCensuses}
 use Rattle.life_check.specs.declared.walk.FoundCensuses.TheVariants.{All, Wrong}
-use Rattle.life_check.specs.ReadState.{census_row, flag_row, IsAskable}
+use Rattle.life_check.specs.ReadState.{census_row, flag_row, IsValidCensus}
 
 -- A request can ask for the census, its deposit exists, and its tally adds up. Unless the check is quick, its tally and
 -- its flag are those of its generation, and the rows of the tally are in order.
 pub record IsCounted (quick : Bool) (ds : List Deposit) (t : Tallied) : Type 0 where
-  pub askable : IsAskable t.census
+  pub askable : IsValidCensus t.census
   pub deposit : Deposit
   pub there : numbered ds t.census.deposit ≡ Some deposit
   pub adds_up : AddsUp t.tally
@@ -43,7 +43,7 @@ AreSome rows = AllByRecursion (λ row. 1 ≤ row.1) rows
 -- A request can ask for the census, its deposit exists, and its tally and its flag are those of its generation. Such a
 -- tally adds up.
 pub record IsTallied (ds : List Deposit) (t : Tallied) : Type 0 where
-  pub askable : IsAskable t.census
+  pub askable : IsValidCensus t.census
   pub there : IsSome (numbered ds t.census.deposit)
   pub is : t ≡ tallied ds t.census
   pub adds_up : AddsUp t.tally

@@ -77,7 +77,7 @@ abbrev pub flag_row_of : ℕ → Bool → Row
 flag_row_of id steady = Int (pos id) ∷ Null ∷ Int (pos (flag_number steady)) ∷ []
 
 -- a request can ask for it: its member and its token are valid, its generation and its limit in range
-pub record IsAskable (c : Census) : Type 0 where
+pub record IsValidCensus (c : Census) : Type 0 where
   pub named : AreNames c.member c.token
   pub few : c.generation ≤ 2048
   pub some : 1 ≤ c.limit

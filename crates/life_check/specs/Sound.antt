@@ -13,7 +13,7 @@ use Rattle.life_check.specs.declared.judging.Verdict.{Verdict}
 use Rattle.life_check.specs.declared.judging.Verdict.TheVariants.{Sound, SoundButForCounts, NotSound}
 use Rattle.life_check.specs.declared.judging.Wrong.{Wrong}
 use Rattle.life_check.specs.declared.judging.Wrong.TheVariants as wrong
-use Rattle.life_check.specs.ReadState.{AreOf, AreNone, AreNames, IsAskable, IsNamed, IsFirstWrong}
+use Rattle.life_check.specs.ReadState.{AreOf, AreNone, AreNames, IsValidCensus, IsNamed, IsFirstWrong}
 use Rattle.life_check.specs.CountState.{AreFiled, AreCounted, AreTallied, IsFirstWrongCensus}
 
 -- The result for the trees: they are those of this many deposits and this many censuses, correctly counted unless the
@@ -49,7 +49,7 @@ FindsSound quick trees (NotSound w) = FindsWrong quick trees w
 -- requests can ask for each deposit and each census
 pub record IsAskedFor (A : Archive) : Type 0 where
   pub deposits : AllByRecursion (λ d. AreNames d.member d.token) A.deposits
-  pub censuses : AllByRecursion IsAskable A.censuses
+  pub censuses : AllByRecursion IsValidCensus A.censuses
 
 -- no two have the same member and the same token
 abbrev pub AreUnique : {X : Type 0} → (X → List ℕ × List ℕ) → List X → Type 0

@@ -7,7 +7,7 @@ ghost use Rattle.life_census.specs.Rows.{row_seen};
 ghost use Rattle.life_store.specs.declared.kept.Deposit.{Deposit as Given};
 ghost use Rattle.life_store.specs.Kept.{Tallied, numbered};
 ghost use Rattle.life_store.specs.Stored.{rows_by, count_cells, tagged};
-ghost use Rattle.life_check.specs.ReadState.{count_row, flag_row_of, IsAskable};
+ghost use Rattle.life_check.specs.ReadState.{count_row, flag_row_of, IsValidCensus};
 ghost use Rattle.life_check.specs.WalkState.{IsCalm};
 ghost use Rattle.life_check.specs.CountState.{AreFiled, AreSome, AreTallied, Takes, TakesClusters, IsBefore, AwaitsCensus, AwaitsRest, HasCounted, Follows, FindsCounted, IsKnown, IsInsideSquare};
 
@@ -240,7 +240,7 @@ fn counted_follows<S: Alter>(
 ) -> Result<Option<u64>, Unavailable>
     requires rows { IsSome ((S.Store.view store.old).cursors 1) }
     requires flags { IsSome ((S.Store.view store.old).cursors 2) }
-    requires askable { IsAskable census.now }
+    requires askable { IsValidCensus census.now }
     requires known { IsClean (S.Store.view store.old) → IsKnown (S.Store.view store.old) last.old }
     requires kept { IsInsideSquare last.old }
     ensures known { IsClean (S.Store.view store.new) → IfOk result (λ o. IfSome o (λ more. IsKnown (S.Store.view store.new) last.new)) }
@@ -278,7 +278,7 @@ fn uncounted_follows<S: Alter>(
 ) -> Result<Option<u64>, Unavailable>
     requires rows { IsSome ((S.Store.view store.old).cursors 1) }
     requires flags { IsSome ((S.Store.view store.old).cursors 2) }
-    requires askable { IsAskable census.now }
+    requires askable { IsValidCensus census.now }
     ensures follow { IsClean (S.Store.view store.new) → IfOk result (λ o. IfSome o (λ more. (ds : List Given) → AreFiled (S.Store.view store.old).trees ds → Follows true ds id before more row.now (S.Store.view store.old) (S.Store.view store.new))) }
     ensures none { IsClean (S.Store.view store.new) → IfOk result (λ o. o ≡ None → (ds : List Given) → AreFiled (S.Store.view store.old).trees ds → (t : Tallied) → t.census ≡ census.now → AwaitsCensus ds id before row.now t (S.Store.view store.old) → ⊥) }
     ensures stay { OnOk result (StayLive (S.Store.view store.old) (S.Store.view store.new)) }

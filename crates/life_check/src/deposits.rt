@@ -4,7 +4,7 @@ ghost use Rattle.std.specs.Prelude.{◌≡◌, IfOk, OnOk};
 ghost use Rattle.sqlite_trees.specs.View.{IsClean};
 ghost use Rattle.life_check.specs.WalkState.{IsCalm, KeepsTrees, FindsDeposits};
 
-use crate::rows::{are_names, deposit_of_row};
+use crate::rows::{are_valid_names, deposit_of_row};
 use crate::walk::{Found, begin, next};
 use crate::watch::Watch;
 use life_store::Unavailable;
@@ -38,7 +38,7 @@ pub(crate) fn deposits<S: Alter, W: Watch>(
         let Some(deposit) = deposit_of_row(alloc, &row, count + 1)? else {
             return Ok(Found::Wrong(count + 1));
         };
-        if !are_names(&deposit.member, &deposit.token) {
+        if !are_valid_names(&deposit.member, &deposit.token) {
             return Ok(Found::Misnamed(count + 1));
         }
     }

@@ -9,7 +9,7 @@ ghost use Rattle.sqlite_value.specs.Order.{Row as Values};
 use crate::censuses::{CENSUS_FLAGS, CENSUS_ROWS, CENSUSES, census_follows, none_left};
 use crate::deposits::{DEPOSITS, LAST};
 use crate::judging::Wrong;
-use crate::rows::{are_names, deposit_of_row, number_at};
+use crate::rows::{are_valid_names, deposit_of_row, number_at};
 use crate::walk::{get, next};
 use crate::watch::Watch;
 use life_store::{Deposit, Unavailable};
@@ -81,7 +81,7 @@ fn deposit_error<S: Alter>(
     let Some(deposit) = deposit_of_row(alloc, &row, id)? else {
         return Ok(Some(Wrong::Deposit(id)));
     };
-    if are_names(&deposit.member, &deposit.token) {
+    if are_valid_names(&deposit.member, &deposit.token) {
         return Ok(None);
     }
     Ok(Some(Wrong::DepositNames(id)))

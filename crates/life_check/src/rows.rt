@@ -9,7 +9,7 @@ ghost use Rattle.life_rle.specs.File.{kept};
 ghost use Rattle.life_store.specs.declared.kept.Deposit.{Deposit as Given};
 ghost use Rattle.life_store.specs.Stored.{IsFiled};
 ghost use Rattle.life_store.specs.Kept.{Tallied};
-ghost use Rattle.life_check.specs.ReadState.{deposit_row, IsDepositRow, census_row, census_row_of, count_row, flag_row_of, AreNames, IsAskable};
+ghost use Rattle.life_check.specs.ReadState.{deposit_row, IsDepositRow, census_row, census_row_of, count_row, flag_row_of, AreNames, IsValidCensus};
 
 use life_code::PERIOD_LIMIT;
 use life_core::GENERATION_LIMIT;
@@ -114,7 +114,7 @@ pub(crate) fn deposit_of_row(
 }
 
 /// Whether a request can have this member and this token.
-pub(crate) fn are_names(member: &Text, token: &Text) -> bool
+pub(crate) fn are_valid_names(member: &Text, token: &Text) -> bool
     ensures { IsTrue result ↔ AreNames member.now token.now }
 {
     check_deposit(member.as_bytes(), token.as_bytes()).is_ok()
@@ -122,9 +122,9 @@ pub(crate) fn are_names(member: &Text, token: &Text) -> bool
 
 /// Whether a request can ask for the census.
 pub(crate) fn is_askable(census: &Census) -> bool
-    ensures { IsTrue result ↔ IsAskable census.now }
+    ensures { IsTrue result ↔ IsValidCensus census.now }
 {
-    are_names(&census.member, &census.token)
+    are_valid_names(&census.member, &census.token)
         && census.generation <= GENERATION_LIMIT
         && 1 <= census.limit
         && census.limit <= PERIOD_LIMIT
@@ -152,7 +152,7 @@ fn small_at(row: &Row, at: usize) -> Option<u32>
 
 /// The census in a row, which may be another census's row.
 pub(crate) fn census_in(alloc: Global, row: &Row) -> Result<Option<Census>, Unavailable>
-    ensures { (id : ℕ) (t : Tallied) → IsAskable t.census → row.now ≡ census_row id t → IfOk result (λ o. o ≡ Some t.census) }
+    ensures { (id : ℕ) (t : Tallied) → IsValidCensus t.census → row.now ≡ census_row id t → IfOk result (λ o. o ≡ Some t.census) }
 {
     let Some(deposit) = number_at(row, 4) else {
         return Ok(None);

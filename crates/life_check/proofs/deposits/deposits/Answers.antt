@@ -16,20 +16,20 @@ returns-in_default-clause-finds g c clean =
     walk_wrong deposit_cells IsNamed IsFiled 0 1 c.loop-count.count _ _ _ c.next.new.row before goes
     (λ it. c.in_ok-deposit.ensures.none none it)
 
-pub returns-then-not-are_names-clause-finds : goal.returns-then-not-are_names-clause-finds
-returns-then-not-are_names-clause-finds g c clean =
+pub returns-then-not-are_valid_names-clause-finds : goal.returns-then-not-are_valid_names-clause-finds
+returns-then-not-are_valid_names-clause-finds g c clean =
     let found : c.in_ok-next.field-0 ≡ true = search rules in
     let goes = subst (Advances (g.S.Store.view c.loop-count.store) (g.S.Store.view c.next.new.store) 0 c.next.new.row)
     found (c.in_ok-next.ensures.ok clean) in
     let before = c.loop-count.invariant.2 (omega (arith, c.next.ensures.calm.clean, clean)) in
-    let other : c.are_names.result ≡ false = search rules in
+    let other : c.are_valid_names.result ≡ false = search rules in
     walk_wrong deposit_cells IsNamed IsNamed 0 1 c.loop-count.count _ _ _ c.next.new.row before goes
     (λ it.
     let same : c.in-Some.deposit ≡ it.0 =
     some_is _ _ (sym c.in-Some.is ∙ c.in_ok-deposit.ensures.value it.0 it.1.filed it.2) in
     let named : AreNames c.in-Some.deposit.member c.in-Some.deposit.token =
     subst (λ (d : Deposit). AreNames d.member d.token) (sym same) it.1.named in
-    no_both c.are_names.result (c.are_names.ensures.1 named) other)
+    no_both c.are_valid_names.result (c.are_valid_names.ensures.1 named) other)
 
 pub loop-count-preserved : goal.loop-count-preserved
 loop-count-preserved g c = (
@@ -42,7 +42,7 @@ loop-count-preserved g c = (
       let before = c.loop-count.invariant.2 (omega (arith, c.next.ensures.calm.clean, clean)) in
       let it : IsFiled c.in-Some.deposit
       × (c.next.new.row ≡ deposit_row (c.loop-count.count + 1) c.in-Some.deposit) = search rules in
-      let well : IsTrue c.are_names.result = search rules in
+      let well : IsTrue c.are_valid_names.result = search rules in
       walk_more deposit_cells IsNamed 0 1 c.loop-count.count _ _ _ c.next.new.row c.in-Some.deposit before goes
-      (record { filed = it.0; named = c.are_names.ensures.0 well }) it.1,
+      (record { filed = it.0; named = c.are_valid_names.ensures.0 well }) it.1,
 )

@@ -35,5 +35,5 @@ returns-clause-wrong g c clean d named there =
     some_is _ _ (sym c.in-Some.is ∙ c.in_ok-deposit.ensures.value d named.filed same) in
     let names : AreNames c.in-Some.deposit.member c.in-Some.deposit.token =
     subst (λ (x : Deposit). AreNames x.member x.token) (sym is) named.named in
-    let other : c.are_names.result ≡ false = search rules in
-    no_both c.are_names.result (c.are_names.ensures.1 names) other
+    let other : c.are_valid_names.result ≡ false = search rules in
+    no_both c.are_valid_names.result (c.are_valid_names.ensures.1 names) other

@@ -1,7 +1,7 @@
 use Rattle.std.proofs.Common.{rules, ◌≡◌}
 use Rattle.std.specs.Prelude.{is_ok}
 use Rattle.life_check.proofs.NameLemmas.{names_checked}
-use Rattle.life_check.proofs.rows.are_names.Goals as goal
+use Rattle.life_check.proofs.rows.are_valid_names.Goals as goal
 
 pub returns : goal.returns
 returns c =

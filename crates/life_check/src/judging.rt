@@ -14,11 +14,11 @@ ghost use Rattle.life_store.specs.declared.kept.Deposit.{Deposit};
 ghost use Rattle.life_store.specs.declared.kept.Census.{Census};
 ghost use Rattle.life_store.specs.Kept.{numbered, deposit_by, census_by};
 
-use crate::censuses::censuses;
-use crate::deposits::deposits;
+use crate::check_watch::CheckWatch;
+use crate::checked_censuses::censuses;
+use crate::checked_deposits::deposits;
 use crate::schemas::is_same_schema;
 use crate::walk::{Found, FoundCensuses, begin, next};
-use crate::watch::Watch;
 use life_store::{Archive, Unavailable};
 use sqlite::Alter;
 use sqlite_value::row::Row;
@@ -83,7 +83,7 @@ fn is_layout<S: Alter>(store: &mut S, alloc: Global) -> Result<bool, Unavailable
 }
 
 /// Reads all trees of an archive's tables once: one row after another, and one tally at a time. A quick check counts no census.
-pub fn check_trees<S: Alter, W: Watch>(
+pub fn check_trees<S: Alter, W: CheckWatch>(
     store: &mut S,
     alloc: Global,
     quick: bool,
@@ -123,7 +123,7 @@ fn has_schema<S: Alter>(archive: &Archive<S>, alloc: Global) -> Result<bool, Una
 }
 
 /// Checks every row of an archive whose tables are known to be its own, and returns its store.
-fn check_rows<S: Alter + Drop, W: Watch>(
+fn check_rows<S: Alter + Drop, W: CheckWatch>(
     archive: Archive<S>,
     alloc: Global,
     quick: bool,
@@ -161,7 +161,7 @@ pub fn law_of_unique_tokens()
 
 /// Checks the tables and every row of an archive, and returns its store. It changes nothing. Sound tables are an archive, whoever wrote
 /// them. A quick check counts no census, and takes about as long as one reading of the deposits.
-pub fn check<S: Alter + Drop, W: Watch>(
+pub fn check<S: Alter + Drop, W: CheckWatch>(
     archive: Archive<S>,
     alloc: Global,
     quick: bool,

@@ -2,21 +2,21 @@
 //! that an archive writes. A job prints the result.
 #![tactic(auto)]
 
-mod censuses;
-mod deposits;
-mod files;
+mod check_watch;
+mod checked_censuses;
+mod checked_deposits;
+mod checked_files;
+mod checked_rows;
 mod judging;
 mod listing;
 mod report;
-mod rows;
 mod schemas;
 #[cfg(test)]
 mod tests;
 mod walk;
-mod watch;
 
-pub use files::{CheckedFiles, check_path};
+pub use check_watch::{CheckWatch, Unwatched};
+pub use checked_files::{CheckedFiles, check_path};
 pub use judging::{Verdict, Wrong, check, check_trees, law_of_unique_tokens};
 pub use listing::further_errors;
 pub use report::{CheckStop, run_check};
-pub use watch::{Unwatched, Watch};

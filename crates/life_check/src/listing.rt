@@ -6,12 +6,12 @@ ghost use Rattle.life_check.specs.WalkState.{IsCalm};
 ghost use Rattle.life_check.specs.Listed.{IsWrongThere, AreWrongThere, IsBeforeCensuses};
 ghost use Rattle.sqlite_value.specs.Order.{Row as Values};
 
-use crate::censuses::{CENSUS_FLAGS, CENSUS_ROWS, CENSUSES, census_follows, none_left};
-use crate::deposits::{DEPOSITS, LAST};
+use crate::check_watch::CheckWatch;
+use crate::checked_censuses::{CENSUS_FLAGS, CENSUS_ROWS, CENSUSES, census_follows, none_left};
+use crate::checked_deposits::{DEPOSITS, LAST};
+use crate::checked_rows::{are_valid_names, deposit_of_row, number_at};
 use crate::judging::Wrong;
-use crate::rows::{are_valid_names, deposit_of_row, number_at};
 use crate::walk::{get, next};
-use crate::watch::Watch;
 use life_store::{Deposit, Unavailable};
 use sqlite::Alter;
 use sqlite_trees::store::Direction;
@@ -102,7 +102,7 @@ fn add(errors: &mut Vec<Wrong>, error: Option<Wrong>) -> Result<(), Unavailable>
 }
 
 /// Adds the errors of the deposits with numbers above `after`. If rows can't be read, those before them are added.
-fn add_deposits<S: Alter, W: Watch>(
+fn add_deposits<S: Alter, W: CheckWatch>(
     store: &mut S,
     alloc: Global,
     after: u64,
@@ -228,7 +228,7 @@ fn add_rows_left<S: Alter>(
 }
 
 /// Adds the errors of the censuses with numbers above `after`. A quick check counts nothing.
-fn add_censuses<S: Alter, W: Watch>(
+fn add_censuses<S: Alter, W: CheckWatch>(
     store: &mut S,
     alloc: Global,
     quick: bool,
@@ -277,7 +277,7 @@ fn censuses_after(first: Wrong) -> Option<u64> {
 }
 
 /// Adds the errors after the first. If rows can't be read, those before them are added.
-fn add_further<S: Alter, W: Watch>(
+fn add_further<S: Alter, W: CheckWatch>(
     store: &mut S,
     alloc: Global,
     quick: bool,
@@ -301,7 +301,7 @@ fn add_further<S: Alter, W: Watch>(
 
 /// The errors of an archive after the first, in the order of the numbers, deposits before censuses; with it at most 100. Deposits and censuses with
 /// numbers up to that of the first error are not looked at again. If rows can't be read, the list ends before them.
-pub fn further_errors<S: Alter, W: Watch>(
+pub fn further_errors<S: Alter, W: CheckWatch>(
     store: &mut S,
     alloc: Global,
     quick: bool,

@@ -6,9 +6,9 @@ ghost use Rattle.sqlite_wal.specs.Files.{image_at};
 ghost use Rattle.life_jobs.specs.Streams.{PutsText, PutsOnce};
 ghost use Rattle.life_check.specs.Report.{line_of, wrong_words, error_line, verdict_words, verdict_line, checked_lines, answer_of, PutsChecked, by_output, ChecksAt};
 
-use crate::files::{CheckedFiles, check_path};
+use crate::check_watch::CheckWatch;
+use crate::checked_files::{CheckedFiles, check_path};
 use crate::judging::{Verdict, Wrong};
-use crate::watch::Watch;
 use life_jobs::{Stop, put_text};
 use life_rle::Outlet;
 use life_store::Unavailable;
@@ -157,7 +157,7 @@ fn put_checked<O: Outlet>(
 }
 
 /// Checks the file of the path as [`check_path`] does, and writes the result: a line, or a line for each error, at most 100.
-pub fn run_check<T: Start, W: Watch, O: Outlet>(
+pub fn run_check<T: Start, W: CheckWatch, O: Outlet>(
     rt: &HostRuntime,
     path: &str,
     capacity: u64,

@@ -1,7 +1,7 @@
 //! A sound archive and, for each table and column, one that is damaged there, by SQL that all constraints of the tables allow.
+use crate::check_watch::Unwatched;
 use crate::judging::{Verdict, Wrong, check_trees};
 use crate::listing::further_errors;
-use crate::watch::Unwatched;
 use sqlite::{Connection, Error, MemStore};
 use std::alloc::Global;
 use std::test::Fail;

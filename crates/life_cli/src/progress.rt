@@ -1,6 +1,6 @@
 //! The progress line of a check.
 
-use life_check::Watch;
+use life_check::CheckWatch;
 use life_program::ProgressLine;
 use std::alloc::{AllocError, Global};
 
@@ -39,7 +39,7 @@ impl<'a> CheckProgress<'a> {
     }
 }
 
-impl Watch for CheckProgress<'_> {
+impl CheckWatch for CheckProgress<'_> {
     fn deposits_read(&mut self, count: u64) {
         self.deposits = count;
         self.show(0);

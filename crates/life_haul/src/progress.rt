@@ -1,6 +1,6 @@
 //! The progress line of a haul.
 
-use life_hauls::Watch;
+use life_hauls::HaulWatch;
 use life_program::ProgressLine;
 use std::alloc::{AllocError, Global};
 
@@ -29,7 +29,7 @@ impl<'a> Progress<'a> {
     }
 }
 
-impl Watch for Progress<'_> {
+impl HaulWatch for Progress<'_> {
     fn report(&mut self, done: u64, count: u64) {
         if done == count {
             return self.line.clear();

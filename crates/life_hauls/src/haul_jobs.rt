@@ -6,11 +6,11 @@ ghost use Rattle.life_jobs.specs.Jobs.{RefusesRule};
 ghost use Rattle.life_jobs.specs.Streams.{PutsOnce};
 ghost use Rattle.life_hauls.specs.Jobs.{is_graphic, IsRoot, MayBeAsked, haul_text, PutsHaul, MaySoupBeAsked, soup_text, PutsSoup};
 
+use crate::haul_watch::HaulWatch;
 use crate::hauls::{HaulQuestion, haul};
 use crate::soups::soup;
 use crate::symmetry::Symmetry;
 use crate::table::csv;
-use crate::watch::Watch;
 use life_code::PERIOD_LIMIT;
 use life_core::{Fault, GENERATION_LIMIT, Rule};
 use life_jobs::{Stop, put_text};
@@ -109,7 +109,7 @@ fn numbers(words: HaulWords<'_>) -> Option<(u32, u32)>
 }
 
 /// The table of a haul.
-fn table<W: Watch>(
+fn table<W: HaulWatch>(
     alloc: Global,
     words: HaulWords<'_>,
     rule: &Rule,
@@ -134,7 +134,7 @@ fn table<W: Watch>(
 }
 
 /// Writes the table of the haul that the arguments name. It checks the numbers and the root before the rule. The watch gets the progress.
-pub fn run_haul<O: Outlet, W: Watch>(
+pub fn run_haul<O: Outlet, W: HaulWatch>(
     alloc: Global,
     words: HaulWords<'_>,
     output: &mut O,

@@ -7,7 +7,7 @@ ghost use Rattle.life_hauls.specs.Program.{DoesJob, HaulEnd};
 
 use crate::haul_arguments::{Job, haul_command, read_words};
 use crate::haul_jobs::{run_haul, run_soup};
-use crate::watch::Watch;
+use crate::haul_watch::HaulWatch;
 use life_jobs::Stop;
 use life_program::{print_fault, print_stop};
 use life_rle::{FromWrite, Outlet};
@@ -18,7 +18,7 @@ use std::io;
 use std::process::ExitCode;
 
 /// Does the job. The watch gets the progress of a haul.
-fn do_job<O: Outlet, W: Watch>(
+fn do_job<O: Outlet, W: HaulWatch>(
     alloc: Global,
     job: Job<'_>,
     output: &mut O,
@@ -45,7 +45,7 @@ fn print_done(rt: &HostRuntime, done: Result<(), Stop>) -> io::Result<ExitCode>
 
 /// Does the job that the arguments name; the first argument is the program's name. Returns the status of the process: 0; 1 if the job stopped,
 /// with a line on standard error; 2 if the arguments name no job, with the text from `clap`. Calls the watch's `ended` before it prints anything.
-pub fn run_words<O: Outlet, W: Watch>(
+pub fn run_words<O: Outlet, W: HaulWatch>(
     rt: &HostRuntime,
     words: &[String],
     output: &mut O,
@@ -64,7 +64,7 @@ pub fn run_words<O: Outlet, W: Watch>(
 }
 
 /// Like [`run_words`], with the arguments of the process and standard output.
-pub fn run_program<W: Watch>(rt: &HostRuntime, watch: &mut W) -> io::Result<ExitCode> {
+pub fn run_program<W: HaulWatch>(rt: &HostRuntime, watch: &mut W) -> io::Result<ExitCode> {
     let words = match words_of(rt, || haul_command(rt.alloc())) {
         Ok(words) => words,
         Err(fault) => return print_fault(rt, fault),

@@ -6,11 +6,11 @@ ghost use Rattle.life_census.specs.Cluster.{clusters_of};
 ghost use Rattle.life_hauls.specs.Hauls.{haul_of};
 ghost use Rattle.life_hauls.specs.Soups.{soup_of};
 
+use crate::haul_watch::HaulWatch;
 use crate::rows::Haul;
 use crate::soup_counting::count_soup;
 use crate::soups::soup;
 use crate::symmetry::Symmetry;
-use crate::watch::Watch;
 use life_census::{CodeCache, CodeText};
 use life_code::{PERIOD_LIMIT, settled_generation};
 use life_core::{Fault, GENERATION_LIMIT, Rule};
@@ -74,7 +74,7 @@ fn codes_of_soup<A: Allocator + Copy>(
 
 /// The haul that a question asks for: how many clusters of its soups' generation have each code under the rule and the limit on the period, and
 /// the number of the first soup with one. After each soup, the watch is called with the progress.
-pub fn haul<A: Allocator + Copy, W: Watch>(
+pub fn haul<A: Allocator + Copy, W: HaulWatch>(
     alloc: A,
     question: &HaulQuestion<'_>,
     watch: &mut W,

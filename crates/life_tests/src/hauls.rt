@@ -1,8 +1,8 @@
 //! Hauls and soups that are written into memory. The expected tables of hauls, and soups of symmetries other than C1, come from a separate
 //! program that uses Python's SHA-256; the soup of C1 comes from `sha256sum` and `basenc`.
 use life_hauls::{
-    HaulWords, Job, SoupWords, Symmetry, Unwatched, Watch, laws_of_hauls, laws_of_soups, run_haul,
-    run_soup,
+    HaulWatch, HaulWords, Job, SoupWords, Symmetry, Unwatched, laws_of_hauls, laws_of_soups,
+    run_haul, run_soup,
 };
 use life_jobs::Stop;
 use life_rle::{MemoryOutlet, Outlet, PieceOutlet};
@@ -265,7 +265,7 @@ struct Told {
     last: (u64, u64),
 }
 
-impl Watch for Told {
+impl HaulWatch for Told {
     fn report(&mut self, done: u64, count: u64) {
         self.times = self.times.saturating_add(1);
         self.last = (done, count);

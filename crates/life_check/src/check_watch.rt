@@ -1,0 +1,25 @@
+//! Reporting the progress of a check.
+
+/// Receives the progress of a check. Nothing that the check returns depends on it.
+pub trait CheckWatch {
+    /// Called when this many rows of deposits are read.
+    fn deposits_read(&mut self, count: u64);
+
+    /// Called when this many censuses are read, with their rows and their flags.
+    fn censuses_read(&mut self, count: u64);
+
+    /// Called once nothing more is read.
+    fn ended(&mut self);
+}
+
+/// Ignores the progress.
+#[derive(Clone, Copy, Debug)]
+pub struct Unwatched;
+
+impl CheckWatch for Unwatched {
+    fn deposits_read(&mut self, _count: u64) {}
+
+    fn censuses_read(&mut self, _count: u64) {}
+
+    fn ended(&mut self) {}
+}

@@ -1,1 +1,1 @@
-pub mod SessionLemmas
+pub mod TestSessionLemmas

@@ -4,7 +4,7 @@ use Rattle.sqlite_trees.specs.declared.store.Store.{Ghosts}
 use Rattle.life_store.specs.Tables.{ArchiveView}
 use Rattle.life_desk.specs.declared.request.Request.TheVariants as requests
 use Rattle.life_desk.proofs.Runs.{IsSettled, crash_safe}
-use Rattle.life_archive.specs.declared.stop.ArchiveStop.{ArchiveStop}
+use Rattle.life_archive.specs.declared.archive_stop.ArchiveStop.{ArchiveStop}
 use Rattle.life_archive.specs.Deposit.{Deposits, IsDepositSafe}
 
 pub deposit_safe : {S : Type 0} (g : Ghosts S) (old new : ArchiveView S) (member token : List ℕ)

@@ -21,9 +21,10 @@ use Rattle.life_desk.proofs.Representing.{each_of}
 use Rattle.life_desk.proofs.Steps.{step_each, after_each}
 use Rattle.life_archive.specs.Deposit.{Deposits}
 use Rattle.life_archive.specs.Session.{FilesRepresent, FilesMean, under, messages_of, replies_of}
-use Rattle.life_archive.specs.Path.{PathJob, by_session, by_deposit, BecomesBy, LeavesFrom, LeavesOne, IsLeftOfRun}
-use Rattle.life_archive.specs.Path.{IsLeftBy, last_of, OpensAs, IsSafeIfAsked, IsLeftIfAsked, PathJobsCompose}
-use Rattle.life_archive.specs.Path.{PathJobsComposeOverCrashes, PathJobsComposeOverRefusals}
+use Rattle.life_archive.specs.ArchivePath.{PathJob, by_session, by_deposit, BecomesBy, LeavesFrom, LeavesOne}
+use Rattle.life_archive.specs.ArchivePath.{IsLeftOfRun}
+use Rattle.life_archive.specs.ArchivePath.{IsLeftBy, last_of, OpensAs, IsSafeIfAsked, IsLeftIfAsked, PathJobsCompose}
+use Rattle.life_archive.specs.ArchivePath.{PathJobsComposeOverCrashes, PathJobsComposeOverRefusals}
 use Rattle.life_archive.proofs.SessionLemmas.{Each, begun_with, files_hold, left_as, left_then}
 
 pub job_leaves : {D : Type 0} (g : disk.Ghosts D) (image : Image) (capacity : ℕ) (left : Result (Files D) (Files D))

@@ -19,12 +19,13 @@ use Rattle.life_desk.specs.Run.{RequestStep, IsDurable}
 use Rattle.life_desk.proofs.Runs.{IsSettled}
 use Rattle.life_desk.proofs.Representing.{holds_of, each_of}
 use Rattle.life_pages.specs.ServedArchive.{IsTakenBy}
-use Rattle.life_archive.specs.declared.stop.ArchiveStop.{ArchiveStop}
+use Rattle.life_archive.specs.declared.archive_stop.ArchiveStop.{ArchiveStop}
 use Rattle.life_archive.specs.Deposit.{AsksOnce, Deposits, IsDepositSafe}
 use Rattle.life_archive.specs.Session.{Traffic, Runs, ServesConnections, messages_of, replies_of}
-use Rattle.life_archive.specs.Path.{PathFiles, IsUnopened, IsUnlistened, ClosesUnasked, opening_stop, OpensAs}
-use Rattle.life_archive.specs.Path.{LeavesFrom, BecomesByDeposit, EndsPathDeposit, IsPathDeposit, EndsPathSession}
-use Rattle.life_archive.specs.Path.{IsPathSession}
+use Rattle.life_archive.specs.ArchivePath.{PathFiles, IsUnopened, IsUnlistened, ClosesUnasked, opening_stop, OpensAs}
+use Rattle.life_archive.specs.ArchivePath.{LeavesFrom, BecomesByDeposit, EndsPathDeposit, IsPathDeposit}
+use Rattle.life_archive.specs.ArchivePath.{EndsPathSession}
+use Rattle.life_archive.specs.ArchivePath.{IsPathSession}
 use Rattle.life_archive.proofs.SessionLemmas.{begun_with}
 
 module _ {D : Type 0} {g : disk.Ghosts D} (a last : ArchiveView (FileStore D g)) (migrated : MigratedIsTheSame)

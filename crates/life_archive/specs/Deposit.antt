@@ -13,8 +13,8 @@ use Rattle.life_desk.specs.declared.request.Reply.TheVariants as replies
 use Rattle.life_desk.specs.Run.{Answered, IsCrashSafe}
 use Rattle.life_jobs.specs.declared.stop.Stop.{Stop}
 use Rattle.life_jobs.specs.declared.stop.Stop.TheVariants.{BadPattern, Unreadable, Unavailable, Unwritable}
-use Rattle.life_archive.specs.declared.stop.ArchiveStop.{ArchiveStop}
-use Rattle.life_archive.specs.declared.stop.ArchiveStop.TheVariants.{Job, Desk}
+use Rattle.life_archive.specs.declared.archive_stop.ArchiveStop.{ArchiveStop}
+use Rattle.life_archive.specs.declared.archive_stop.ArchiveStop.TheVariants.{Job, Desk}
 
 -- the file is all the bytes that come in; of more than a file may have, one byte too many is taken, and the archive
 -- refuses it

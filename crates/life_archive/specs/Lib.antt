@@ -1,4 +1,4 @@
-pub mod Stop
+pub mod ArchiveStopLine
 pub mod Deposit
 pub mod Session
-pub mod Path
+pub mod ArchivePath

@@ -21,8 +21,8 @@ use Rattle.life_pages.specs.Message.{Message, MessageRun, AnswersMessage}
 use Rattle.life_pages.specs.Serving.{AreAllOf, AreFirstOfStream}
 use Rattle.life_pages.specs.ServedArchive.{StoreAnswers, AnswersFirmly, ByArchive, IsLeftOf, IsServedUntil}
 use Rattle.life_jobs.specs.declared.stop.Stop.TheVariants.{Unavailable, Unwritable}
-use Rattle.life_archive.specs.declared.stop.ArchiveStop.{ArchiveStop}
-use Rattle.life_archive.specs.declared.stop.ArchiveStop.TheVariants.{Job, NoPort}
+use Rattle.life_archive.specs.declared.archive_stop.ArchiveStop.{ArchiveStop}
+use Rattle.life_archive.specs.declared.archive_stop.ArchiveStop.TheVariants.{Job, NoPort}
 
 -- ---- connections
 

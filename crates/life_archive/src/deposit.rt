@@ -9,10 +9,10 @@ ghost use Rattle.life_desk.specs.declared.request.Request.TheVariants as request
 ghost use Rattle.life_desk.specs.Run.{Answered};
 ghost use Rattle.life_jobs.specs.Streams.{TakesFile, PutsOnce};
 ghost use Rattle.life_jobs.specs.declared.stop.Stop.TheVariants.{Unreadable};
-ghost use Rattle.life_archive.specs.declared.stop.ArchiveStop.TheVariants.{Job};
+ghost use Rattle.life_archive.specs.declared.archive_stop.ArchiveStop.TheVariants.{Job};
 ghost use Rattle.life_archive.specs.Deposit.{IsFileTaken, IsUnasked, deposit_line, desk_stop, by_streams, PutsReply, Deposits, IsDepositSafe};
 
-use crate::stop::ArchiveStop;
+use crate::archive_stop::ArchiveStop;
 use itoa::Buffer;
 use life_desk::{Bytes, Refusal, Reply, Request, answer};
 use life_jobs::Stop;

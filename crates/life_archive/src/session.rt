@@ -9,7 +9,7 @@ ghost use Rattle.life_store.specs.Tables.{Holds, TreesHold, IsTransition, HoldsT
 ghost use Rattle.life_store.specs.Opening.{is_capacity, FilesHold, ListNothing};
 ghost use Rattle.life_archive.specs.Session.{Traffic, CannotListen, ServesOne, ServesSome, ServesConnections, AreUsable, either, EndsSession, IsSession, SessionsCompose, SessionsComposeOverCrashes};
 
-use crate::stop::ArchiveStop;
+use crate::archive_stop::ArchiveStop;
 use life_desk::law_of_migrated_archives;
 use life_store::{Archive, OpenFault, Unavailable};
 use sqlite::{Alter, FileStore, Files};

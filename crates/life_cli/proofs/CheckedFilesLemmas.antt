@@ -15,7 +15,7 @@ use Rattle.life_check.specs.declared.judging.Verdict.TheVariants.{Sound, SoundBu
 use Rattle.life_check.specs.declared.judging.Wrong.{Wrong}
 use Rattle.life_check.specs.Files.{ChecksPath, IsPathCheck}
 use Rattle.life_check.specs.Listed.{AreFurther}
-use Rattle.life_archive.specs.Path.{PathJob, BecomesBy, LeavesOne}
+use Rattle.life_archive.specs.ArchivePath.{PathJob, BecomesBy, LeavesOne}
 use Rattle.life_archive.specs.Session.{under}
 use Rattle.life_check.specs.declared.report.CheckStop.{CheckStop}
 use Rattle.life_check.specs.Report.{verdict_line, checked_lines, PutsVerdict, PutsChecked}

@@ -10,10 +10,11 @@ use Rattle.life_rle.specs.declared.stream.Inlet as inlet
 use Rattle.life_rle.specs.declared.stream.Outlet as outlet
 use Rattle.life_jobs.specs.Streams.{TakesFile, PutsOnce}
 use Rattle.life_check.specs.Files.{CheckedFiles}
-use Rattle.life_archive.specs.declared.stop.ArchiveStop.{ArchiveStop}
+use Rattle.life_archive.specs.declared.archive_stop.ArchiveStop.{ArchiveStop}
 use Rattle.life_archive.specs.Deposit.{by_streams}
-use Rattle.life_archive.specs.Path.{PathFiles, DepositsAt, IsPathSession, IsUnserved, AnswersDeposit, AnswersServing}
-use Rattle.life_archive.specs.Path.{line_after}
+use Rattle.life_archive.specs.ArchivePath.{PathFiles, DepositsAt, IsPathSession, IsUnserved, AnswersDeposit}
+use Rattle.life_archive.specs.ArchivePath.{AnswersServing}
+use Rattle.life_archive.specs.ArchivePath.{line_after}
 use Rattle.life_check.specs.declared.report.CheckStop.{CheckStop}
 use Rattle.life_check.specs.Report as report
 

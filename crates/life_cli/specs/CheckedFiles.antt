@@ -9,7 +9,7 @@ use Rattle.life_rle.specs.Stream.{Appends}
 use Rattle.life_desk.specs.Archive.{Archive}
 use Rattle.life_check.specs.declared.judging.Verdict.TheVariants.{Sound}
 use Rattle.life_check.specs.Report.{verdict_line, ChecksAt}
-use Rattle.life_archive.specs.Path.{PathJob, BecomesBy, LeavesOne}
+use Rattle.life_archive.specs.ArchivePath.{PathJob, BecomesBy, LeavesOne}
 use Rattle.life_archive.specs.Session.{under}
 
 -- Files were checked, with each census counted again, and the answer Ok, and `life serve` or `life deposit` opens them

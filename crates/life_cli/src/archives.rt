@@ -1,7 +1,7 @@
 //! The jobs over an archive in files on this machine.
 ghost use Rattle.std.specs.Prelude.{◌≡◌, None, Some, MatchResult};
 ghost use Rattle.sqlite_wal.specs.Files.{image_at};
-ghost use Rattle.life_archive.specs.Path.{AnswersDeposit, AnswersServing, line_after};
+ghost use Rattle.life_archive.specs.ArchivePath.{AnswersDeposit, AnswersServing, line_after};
 ghost use Rattle.life_check.specs.Report.{AnswersCheck, line_after as line_after_check};
 
 use crate::net::Port;

@@ -1,4 +1,4 @@
-use Rattle.archive_tests.proofs.SessionLemmas.{sent_whole, sent_first}
+use Rattle.archive_tests.proofs.TestSessionLemmas.{sent_whole, sent_first}
 use Rattle.archive_tests.proofs.sessions.serve_sent.Goals as goal
 
 pub returns-in-Ok : goal.returns-in-Ok

@@ -1,4 +1,4 @@
-use Rattle.archive_tests.proofs.SessionLemmas.{next_stream}
+use Rattle.archive_tests.proofs.TestSessionLemmas.{next_stream}
 use Rattle.archive_tests.proofs.sessions.stream_at.Goals as goal
 
 pub returns-in-Some : goal.returns-in-Some

@@ -1,5 +1,5 @@
 use Rattle.archive_tests.specs.Sessions.{streams_from}
-use Rattle.archive_tests.proofs.SessionLemmas.{none_sent}
+use Rattle.archive_tests.proofs.TestSessionLemmas.{none_sent}
 use Rattle.archive_tests.proofs.sessions.PeersConnections.serve_next.Goals as goal
 
 pub returns-in_default : goal.returns-in_default

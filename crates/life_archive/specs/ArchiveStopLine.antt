@@ -4,8 +4,8 @@ use Rattle.life_desk.specs.Refusals as refusals
 use Rattle.life_jobs.specs.Stop as jobs
 use Rattle.life_pages.specs.declared.pages_fault.IoFault.{IoFault}
 use Rattle.life_pages.specs.declared.pages_fault.IoFault.TheVariants as fault
-use Rattle.life_archive.specs.declared.stop.ArchiveStop.{ArchiveStop}
-use Rattle.life_archive.specs.declared.stop.ArchiveStop.TheVariants.{Job, Desk, NotOurs, NoPort}
+use Rattle.life_archive.specs.declared.archive_stop.ArchiveStop.{ArchiveStop}
+use Rattle.life_archive.specs.declared.archive_stop.ArchiveStop.TheVariants.{Job, Desk, NotOurs, NoPort}
 
 -- the line of a stop
 abbrev pub line_of : ArchiveStop → List ℕ

@@ -3,11 +3,11 @@ ghost use Rattle.std.specs.Prelude.{◌≡◌, Some, Err, option_map, OnOk, OnEr
 ghost use Rattle.sqlite_wal.specs.Files.{image_at};
 ghost use Rattle.life_jobs.specs.Streams.{TakesFile, PutsOnce};
 ghost use Rattle.life_archive.specs.Deposit.{by_streams};
-ghost use Rattle.life_archive.specs.Path.{opening_stop, ClosesUnasked, EndsPathDeposit, DepositsAt, EndsPathSession, IsPathSession, IsUnserved, PathJobsCompose, PathJobsComposeOverCrashes, PathJobsComposeOverRefusals};
+ghost use Rattle.life_archive.specs.ArchivePath.{opening_stop, ClosesUnasked, EndsPathDeposit, DepositsAt, EndsPathSession, IsPathSession, IsUnserved, PathJobsCompose, PathJobsComposeOverCrashes, PathJobsComposeOverRefusals};
 
+use crate::archive_stop::ArchiveStop;
 use crate::deposit::run_deposit;
 use crate::session::{Connections, serve_connections};
-use crate::stop::ArchiveStop;
 use life_desk::law_of_migrated_archives;
 use life_jobs::Stop;
 use life_rle::{Inlet, Outlet};

@@ -1,5 +1,5 @@
 use Rattle.life_archive.proofs.PathLemmas.{deposit_leaves, ends_deposit}
-use Rattle.life_archive.proofs.path.deposit_opened.Goals as goal
+use Rattle.life_archive.proofs.archive_path.deposit_opened.Goals as goal
 
 pub returns-in-Ok-clause-ends : goal.returns-in-Ok-clause-ends
 returns-in-Ok-clause-ends g c =

@@ -1,5 +1,5 @@
 use Rattle.life_archive.proofs.PathLemmas.{closed_leaves}
-use Rattle.life_archive.proofs.path.serve_opened.Goals as goal
+use Rattle.life_archive.proofs.archive_path.serve_opened.Goals as goal
 
 pub returns-in-Ok : goal.returns-in-Ok
 returns-in-Ok g c =

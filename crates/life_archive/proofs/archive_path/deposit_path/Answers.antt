@@ -1,6 +1,6 @@
 use Rattle.std.proofs.Common.{inl, inr, refl}
 use Rattle.life_archive.proofs.PathLemmas.{is_path_deposit, unopened}
-use Rattle.life_archive.proofs.path.deposit_path.Goals as goal
+use Rattle.life_archive.proofs.archive_path.deposit_path.Goals as goal
 
 pub returns-in-Ok-clause-deposits : goal.returns-in-Ok-clause-deposits
 returns-in-Ok-clause-deposits g c =

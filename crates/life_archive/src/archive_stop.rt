@@ -1,6 +1,6 @@
 //! Why a job over an archive stops early, and the line that is printed for it.
 ghost use Rattle.std.specs.Prelude.{◌≡◌};
-ghost use Rattle.life_archive.specs.Stop.{line_of, connection_line};
+ghost use Rattle.life_archive.specs.ArchiveStopLine.{line_of, connection_line};
 
 use life_desk::Refusal;
 use life_jobs::Stop;

@@ -1,6 +1,6 @@
 use Rattle.std.proofs.Common.{inl, inr, refl}
 use Rattle.life_archive.proofs.PathLemmas.{is_path_session, unopened, unlistened}
-use Rattle.life_archive.proofs.path.serve_path.Goals as goal
+use Rattle.life_archive.proofs.archive_path.serve_path.Goals as goal
 
 pub returns-in-Ok-listen-clause-session : goal.returns-in-Ok-listen-clause-session
 returns-in-Ok-listen-clause-session g c =

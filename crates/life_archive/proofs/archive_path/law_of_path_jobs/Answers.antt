@@ -1,5 +1,5 @@
 use Rattle.life_archive.proofs.PathJobs.{path_jobs_compose, path_jobs_over_crashes, path_jobs_over_refusals}
-use Rattle.life_archive.proofs.path.law_of_path_jobs.Goals as goal
+use Rattle.life_archive.proofs.archive_path.law_of_path_jobs.Goals as goal
 
 pub returns-clause-composed : goal.returns-clause-composed
 returns-clause-composed g c = path_jobs_compose g.D.Disk g.E.Disk

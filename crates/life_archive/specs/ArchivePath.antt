@@ -30,9 +30,9 @@ use Rattle.life_desk.specs.declared.request.Reply.{Reply}
 use Rattle.life_desk.specs.Replies.{after}
 use Rattle.life_desk.specs.Archive.{Archive}
 use Rattle.life_desk.specs.Run.{RequestStep, RequestRun, IsCrashSafe, IsDurable, AcknowledgeNothing}
-use Rattle.life_archive.specs.declared.stop.ArchiveStop.{ArchiveStop}
-use Rattle.life_archive.specs.declared.stop.ArchiveStop.TheVariants.{Job, NotOurs}
-use Rattle.life_archive.specs.Stop.{line_of}
+use Rattle.life_archive.specs.declared.archive_stop.ArchiveStop.{ArchiveStop}
+use Rattle.life_archive.specs.declared.archive_stop.ArchiveStop.TheVariants.{Job, NotOurs}
+use Rattle.life_archive.specs.ArchiveStopLine.{line_of}
 use Rattle.life_archive.specs.Deposit.{Deposits, by_streams}
 use Rattle.life_pages.specs.ServedArchive.{IsLeftOf}
 use Rattle.life_archive.specs.Session.{Traffic, unknown, Runs, ServesConnections, FilesRepresent, FilesMean}

@@ -1,6 +1,6 @@
 use Rattle.std.proofs.Common.{refl}
 use Rattle.life_archive.proofs.PathLemmas.{unasked_leaves}
-use Rattle.life_archive.proofs.path.close_unasked.Goals as goal
+use Rattle.life_archive.proofs.archive_path.close_unasked.Goals as goal
 
 pub returns-in-Ok : goal.returns-in-Ok
 returns-in-Ok g c = record {

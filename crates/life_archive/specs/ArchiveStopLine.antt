@@ -1,7 +1,7 @@
 -- The lines that a job over an archive prints on standard error, each without its line end. They are the program's own.
 use Rattle.std.specs.Prelude.{ℕ, List, codes}
 use Rattle.life_desk.specs.Refusals as refusals
-use Rattle.life_jobs.specs.Stop as jobs
+use Rattle.life_jobs.specs.JobStop as jobs
 use Rattle.life_pages.specs.declared.pages_fault.IoFault.{IoFault}
 use Rattle.life_pages.specs.declared.pages_fault.IoFault.TheVariants as fault
 use Rattle.life_archive.specs.declared.archive_stop.ArchiveStop.{ArchiveStop}

@@ -10,7 +10,7 @@ use Rattle.life_rle.specs.declared.stream.Outlet as outlet
 use Rattle.life_rle.specs.Stream.{Appends, AppendsSome}
 use Rattle.life_jobs.specs.declared.stop.Stop.{Stop}
 use Rattle.life_jobs.specs.declared.stop.Stop.TheVariants.{Unavailable, Unwritable}
-use Rattle.life_jobs.specs.Stop as jobs
+use Rattle.life_jobs.specs.JobStop as jobs
 use Rattle.life_jobs.specs.Streams.{PutsOnce}
 use Rattle.life_store.specs.declared.store_fault.Unavailable.{Unavailable as Failed}
 use Rattle.life_check.specs.declared.judging.Verdict.{Verdict}

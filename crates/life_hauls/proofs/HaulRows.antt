@@ -10,7 +10,7 @@ use Rattle.std.proofs.lemmas.Cmp.{tied_itself}
 use Rattle.std.proofs.lemmas.List.Sums.{sum_by-cons}
 use Rattle.life_census.specs.Counting.{row_cmp, how_often}
 use Rattle.life_census.proofs.CountingLaws.{Texts, same_text, same_text_is, row_cmp_total, row_cmp_exact, one_if}
-use Rattle.life_hauls.specs.declared.rows.Occurrences.{Occurrences}
+use Rattle.life_hauls.specs.declared.haul_rows.Occurrences.{Occurrences}
 use Rattle.life_hauls.specs.Hauls.{rows_by}
 
 abbrev pub Rows : Type 0

@@ -1,12 +1,12 @@
 pub mod SoupLemmas
 pub mod SeenLemmas
 pub mod HaulRows
-pub mod RowLemmas
+pub mod HaulRowLemmas
 pub mod PushLemmas
-pub mod JobsLemmas
-pub mod WordsLemmas
+pub mod HaulJobsLemmas
+pub mod HaulWordsLemmas
 pub mod OccurrenceLaws
 pub mod TogetherLaws
 pub mod TallyLaws
 pub mod SoupLaws
-pub mod ProgramLemmas
+pub mod HaulProgramLemmas

@@ -7,9 +7,9 @@ use Rattle.std.proofs.lemmas.Bool.{false≢true, cases_lt}
 use Rattle.std.proofs.lemmas.List.Sums.{sum_by-cons}
 use Rattle.life_code.proofs.ApartUnions.{IsIn, in_from_contains}
 use Rattle.life_census.proofs.ClusterLaws.{contains_from_in}
-use Rattle.life_hauls.specs.declared.rows.Occurrences.{Occurrences}
+use Rattle.life_hauls.specs.declared.haul_rows.Occurrences.{Occurrences}
 use Rattle.life_hauls.specs.Hauls.{is_positive, lesser_number, least_number, seen, joined}
-use Rattle.life_hauls.specs.Laws.{SeenIsLeast, NothingIsSeen}
+use Rattle.life_hauls.specs.HaulLaws.{SeenIsLeast, NothingIsSeen}
 use Rattle.life_hauls.proofs.SeenLemmas.{has, occurrences, none_are_none, seen-none, seen-append, seen-one, occurs}
 
 -- ---- the least of a list

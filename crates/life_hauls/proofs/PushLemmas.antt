@@ -9,7 +9,7 @@ use Rattle.std.proofs.lemmas.List.Folds.{list_any-append}
 use Rattle.std.proofs.lemmas.List.Sums.{sum_by-cons, sum_by_push}
 use Rattle.life_census.specs.Counting.{how_often}
 use Rattle.life_census.proofs.CountingLaws.{Texts, same_text, same_text_is, how_often_none, one_if}
-use Rattle.life_hauls.specs.declared.rows.Occurrences.{Occurrences}
+use Rattle.life_hauls.specs.declared.haul_rows.Occurrences.{Occurrences}
 use Rattle.life_hauls.specs.Hauls.{HaulCounts, seen, more, joined, texts_in, rows_by, counts_over}
 use Rattle.life_hauls.specs.HaulsState.{once, noted, with_code, with_codes, with_soup}
 use Rattle.life_hauls.proofs.SeenLemmas.{seen-none, seen-one, seen-append, seen-push, occurs, occurs-more}

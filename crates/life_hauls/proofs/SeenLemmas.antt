@@ -5,7 +5,7 @@ use Rattle.std.proofs.Common.{sym, ap, ◌∙◌, arith}
 use Rattle.std.proofs.lemmas.Bool.{false≢true}
 use Rattle.std.proofs.lemmas.List.Elements.{filter-append}
 use Rattle.std.proofs.lemmas.List.Sums.{sum_by-cons, sum_by-append}
-use Rattle.life_hauls.specs.declared.rows.Occurrences.{Occurrences}
+use Rattle.life_hauls.specs.declared.haul_rows.Occurrences.{Occurrences}
 use Rattle.life_hauls.specs.Hauls.{is_positive, lesser_number, least_number, seen, more, joined}
 use Rattle.life_hauls.specs.HaulsState.{once}
 

@@ -20,16 +20,17 @@ use Rattle.life_census.specs.Cluster.{clusters_of}
 use Rattle.life_census.specs.Counting.{row_cmp, how_often, occurrences_of}
 use Rattle.life_census.proofs.CountingLaws.{Texts, same_text, row_cmp_total, both_T, less_T, table_of, get_counted}
 use Rattle.life_census.proofs.CountingLaws.{how_often_none}
-use Rattle.life_hauls.specs.declared.rows.Occurrences.{Occurrences}
+use Rattle.life_hauls.specs.declared.haul_rows.Occurrences.{Occurrences}
 use Rattle.life_hauls.specs.Hauls.{HaulCounts, seen, more, both, texts_in, counts_over, soup_codes}
 use Rattle.life_hauls.specs.HaulsState.{once, noted, with_code, with_codes}
-use Rattle.life_hauls.specs.Laws.{count_of, count_in, soup_tally, RowsAreOfTallies, RowsAscend, UnresolvedAreOfTallies}
-use Rattle.life_hauls.specs.Laws.{ClustersCountOnce, SumsAreCounts}
+use Rattle.life_hauls.specs.HaulLaws.{count_of, count_in, soup_tally, RowsAreOfTallies, RowsAscend}
+use Rattle.life_hauls.specs.HaulLaws.{UnresolvedAreOfTallies}
+use Rattle.life_hauls.specs.HaulLaws.{ClustersCountOnce, SumsAreCounts}
 use Rattle.life_hauls.specs.declared.symmetry.Symmetry.{Symmetry}
 use Rattle.life_hauls.specs.Soups.{soup_of}
 use Rattle.life_hauls.proofs.HaulRows.{Rows, IsSorted, found}
 use Rattle.life_hauls.proofs.PushLemmas.{found-over, sorted-haul, sorted-more, counts-push, no-soups}
-use Rattle.life_hauls.proofs.RowLemmas.{none_below}
+use Rattle.life_hauls.proofs.HaulRowLemmas.{none_below}
 
 -- ---- one tally
 

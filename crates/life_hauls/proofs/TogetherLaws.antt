@@ -9,9 +9,9 @@ use Rattle.std.proofs.lemmas.List.Folds.{list_any-append}
 use Rattle.std.proofs.lemmas.List.Sums.{sum_by-append}
 use Rattle.life_census.specs.Counting.{how_often}
 use Rattle.life_census.proofs.CountingLaws.{Texts, same_text}
-use Rattle.life_hauls.specs.declared.rows.Occurrences.{Occurrences}
+use Rattle.life_hauls.specs.declared.haul_rows.Occurrences.{Occurrences}
 use Rattle.life_hauls.specs.Hauls.{joined, together, rows_by, texts_in, counts_over, soup_codes}
-use Rattle.life_hauls.specs.Laws.{HaulsAddUp, TogetherByCodes, TogetherInAnyOrder, TogetherInAnyGrouping}
+use Rattle.life_hauls.specs.HaulLaws.{HaulsAddUp, TogetherByCodes, TogetherInAnyOrder, TogetherInAnyGrouping}
 use Rattle.life_hauls.proofs.SeenLemmas.{seen-append}
 use Rattle.life_hauls.proofs.HaulRows.{Rows, IsSorted, found, rows_are, sorted-rows, rows_say}
 use Rattle.life_hauls.proofs.PushLemmas.{rows_over, found-over, sorted-over}

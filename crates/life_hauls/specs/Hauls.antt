@@ -10,8 +10,8 @@ use Rattle.life_core.specs.Rule.{RuleSets}
 use Rattle.life_code.specs.Codes.{code_of}
 use Rattle.life_census.specs.Cluster.{clusters_of}
 use Rattle.life_census.specs.Counting.{row_cmp, how_often}
-use Rattle.life_hauls.specs.declared.rows.Occurrences.{Occurrences}
-use Rattle.life_hauls.specs.declared.rows.HaulRow.{HaulRow}
+use Rattle.life_hauls.specs.declared.haul_rows.Occurrences.{Occurrences}
+use Rattle.life_hauls.specs.declared.haul_rows.HaulRow.{HaulRow}
 use Rattle.life_hauls.specs.declared.symmetry.Symmetry.{Symmetry}
 use Rattle.life_hauls.specs.Soups.{soup_of}
 

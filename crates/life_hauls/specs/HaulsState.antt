@@ -3,8 +3,8 @@ use Rattle.std.specs.Prelude.{◌≡◌, ◌≢◌, ℕ, ◌+◌, ◌<◌, ◌�
 use Rattle.std.specs.declared.cmp.Ordering.TheVariants.{Less, Equal, Greater}
 use Rattle.std.specs.FinMap as table
 use Rattle.life_census.specs.Counting.{row_cmp}
-use Rattle.life_hauls.specs.declared.rows.Occurrences.{Occurrences}
-use Rattle.life_hauls.specs.declared.rows.HaulRow.{HaulRow}
+use Rattle.life_hauls.specs.declared.haul_rows.Occurrences.{Occurrences}
+use Rattle.life_hauls.specs.declared.haul_rows.HaulRow.{HaulRow}
 use Rattle.life_hauls.specs.Hauls.{HaulCounts, more}
 
 -- one cluster, in soup i

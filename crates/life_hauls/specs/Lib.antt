@@ -1,8 +1,8 @@
 pub mod Soups
 pub mod Hauls
 pub mod HaulsState
-pub mod Table
-pub mod Jobs
-pub mod Words
-pub mod Laws
-pub mod Program
+pub mod HaulTable
+pub mod HaulJobs
+pub mod HaulWords
+pub mod HaulLaws
+pub mod HaulProgram

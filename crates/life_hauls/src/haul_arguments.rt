@@ -2,8 +2,8 @@
 ghost use Rattle.std.specs.Prelude.{◌≡◌, codes, map, option_map, IfOk, false};
 ghost use Rattle.clap.specs.Words.{app_of, rule_of, rows_of, found_of, subcommand_rows_of};
 ghost use Rattle.life_words.specs.Words.{text_rule, text_at, MakesCommand, Answers};
-ghost use Rattle.life_hauls.specs.Words.{rule_rule, symmetry_rule, soup_app, haul_alone, haul_app, asked_by, rule_or_life, symmetry_or_c1, is_any_before};
-ghost use Rattle.life_hauls.specs.Words.{haul_in as haul_of_rows, soup_in as soup_of_rows, job_named, job_of, words_job};
+ghost use Rattle.life_hauls.specs.HaulWords.{rule_rule, symmetry_rule, soup_app, haul_alone, haul_app, asked_by, rule_or_life, symmetry_or_c1, is_any_before};
+ghost use Rattle.life_hauls.specs.HaulWords.{haul_in as haul_of_rows, soup_in as soup_of_rows, job_named, job_of, words_job};
 
 use crate::haul_jobs::{HaulWords, SoupWords};
 use crate::symmetry::Symmetry;

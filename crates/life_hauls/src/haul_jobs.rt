@@ -2,15 +2,15 @@
 ghost use Rattle.std.specs.Prelude.{◌≡◌, ◌↔◌, ◌≤◌, Err, IfOk, IsTrue};
 ghost use Rattle.std.specs.List.{list_all};
 ghost use Rattle.std.specs.Option.{MatchOption};
-ghost use Rattle.life_jobs.specs.Jobs.{RefusesRule};
+ghost use Rattle.life_jobs.specs.PatternJobs.{RefusesRule};
 ghost use Rattle.life_jobs.specs.Streams.{PutsOnce};
-ghost use Rattle.life_hauls.specs.Jobs.{is_graphic, IsRoot, MayBeAsked, haul_text, PutsHaul, MaySoupBeAsked, soup_text, PutsSoup};
+ghost use Rattle.life_hauls.specs.HaulJobs.{is_graphic, IsRoot, MayBeAsked, haul_text, PutsHaul, MaySoupBeAsked, soup_text, PutsSoup};
 
+use crate::haul_table::csv;
 use crate::haul_watch::HaulWatch;
 use crate::hauls::{HaulQuestion, haul};
 use crate::soups::soup;
 use crate::symmetry::Symmetry;
-use crate::table::csv;
 use life_code::PERIOD_LIMIT;
 use life_core::{Fault, GENERATION_LIMIT, Rule};
 use life_jobs::{Stop, put_text};

@@ -1,7 +1,7 @@
 //! What holds of all soups and hauls.
 ghost use Rattle.std.specs.Prelude.{◌≡◌, ◌^◌};
 ghost use Rattle.life_hauls.specs.Soups.{NamesAreRead, NamesAreOne, BitsAreCells, MirrorsKeepSoups, SoupsAreFields};
-ghost use Rattle.life_hauls.specs.Laws.{HaulsAddUp, TogetherByCodes, TogetherInAnyOrder, TogetherInAnyGrouping, SeenIsLeast, NothingIsSeen, RowsAreOfTallies, RowsAscend, UnresolvedAreOfTallies, ClustersCountOnce, SumsAreCounts};
+ghost use Rattle.life_hauls.specs.HaulLaws.{HaulsAddUp, TogetherByCodes, TogetherInAnyOrder, TogetherInAnyGrouping, SeenIsLeast, NothingIsSeen, RowsAreOfTallies, RowsAscend, UnresolvedAreOfTallies, ClustersCountOnce, SumsAreCounts};
 
 use crate::haul_jobs::{COUNT_LIMIT, FIRST_LIMIT};
 

@@ -2,8 +2,8 @@
 ghost use Rattle.std.specs.Prelude.{map, MatchResult};
 ghost use Rattle.life_program.specs.Job.{IsStatus};
 ghost use Rattle.life_jobs.specs.Streams.{PutsOnce};
-ghost use Rattle.life_hauls.specs.Words.{words_job};
-ghost use Rattle.life_hauls.specs.Program.{DoesJob, HaulEnd};
+ghost use Rattle.life_hauls.specs.HaulWords.{words_job};
+ghost use Rattle.life_hauls.specs.HaulProgram.{DoesJob, HaulEnd};
 
 use crate::haul_arguments::{Job, haul_command, read_words};
 use crate::haul_jobs::{run_haul, run_soup};

@@ -6,8 +6,8 @@ ghost use Rattle.life_census.specs.Cluster.{clusters_of};
 ghost use Rattle.life_hauls.specs.Hauls.{haul_of};
 ghost use Rattle.life_hauls.specs.Soups.{soup_of};
 
+use crate::haul_rows::Haul;
 use crate::haul_watch::HaulWatch;
-use crate::rows::Haul;
 use crate::soup_counting::count_soup;
 use crate::soups::soup;
 use crate::symmetry::Symmetry;

@@ -6,7 +6,7 @@ ghost use Rattle.life_census.specs.Counting.{row_cmp};
 ghost use Rattle.life_hauls.specs.Hauls.{more, row_seen};
 ghost use Rattle.life_hauls.specs.HaulsState.{once, noted, with_code, with_soup, AreBelow, AreNotBelow, IsRowOf, IsPlaceFor};
 
-use crate::rows::{Haul, HaulRow, Occurrences};
+use crate::haul_rows::{Haul, HaulRow, Occurrences};
 use life_census::CodeText;
 use life_core::Fault;
 use std::alloc::{AllocError, Allocator};

@@ -1,1 +1,1 @@
-pub mod JobsLemmas
+pub mod PatternJobsLemmas

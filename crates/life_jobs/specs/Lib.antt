@@ -1,4 +1,4 @@
-pub mod Stop
+pub mod JobStop
 pub mod Streams
-pub mod Jobs
-pub mod JobsState
+pub mod PatternJobs
+pub mod PatternJobsState

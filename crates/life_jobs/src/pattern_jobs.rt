@@ -9,9 +9,9 @@ ghost use Rattle.life_code.specs.Period.{kind_of};
 ghost use Rattle.life_code.specs.Codes.{code_of};
 ghost use Rattle.life_code.specs.Object.{IsCodeOf};
 ghost use Rattle.life_code.specs.Open.{Spells, Refuses};
-ghost use Rattle.life_jobs.specs.Jobs.{later, generation_text, IsPeriodLimit, code_or_dash, kind_words, kind_line, kind_text, AreCensusNumbers, census_table, census_text};
-ghost use Rattle.life_jobs.specs.Jobs.{RefusesRule, PutsObject, PutsKnown};
-ghost use Rattle.life_jobs.specs.JobsState.{code_stop};
+ghost use Rattle.life_jobs.specs.PatternJobs.{later, generation_text, IsPeriodLimit, code_or_dash, kind_words, kind_line, kind_text, AreCensusNumbers, census_table, census_text};
+ghost use Rattle.life_jobs.specs.PatternJobs.{RefusesRule, PutsObject, PutsKnown};
+ghost use Rattle.life_jobs.specs.PatternJobsState.{code_stop};
 ghost use Rattle.life_jobs.specs.Streams.{TakesFile, PutsText, PutsOnce};
 
 use crate::stop::Stop;

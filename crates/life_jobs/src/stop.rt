@@ -1,6 +1,6 @@
 //! Why a job over a file or a code stops early, and the line that is printed for it.
 ghost use Rattle.std.specs.Prelude.{◌≡◌};
-ghost use Rattle.life_jobs.specs.Stop.{line_of};
+ghost use Rattle.life_jobs.specs.JobStop.{line_of};
 
 use life_code::CodeFault;
 use life_rle::RleFault;

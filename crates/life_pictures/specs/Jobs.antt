@@ -2,7 +2,7 @@
 use Rattle.std.specs.Prelude.{ℕ, ◌≤◌, ◌<◌, ◌-◌, List, Result}
 use Rattle.life_rle.specs.declared.rle_fault.RleFault.{RleFault}
 use Rattle.life_rle.specs.Record.{Contents}
-use Rattle.life_jobs.specs.Jobs.{file_text}
+use Rattle.life_jobs.specs.PatternJobs.{file_text}
 use Rattle.life_pictures.specs.declared.draw_job.Picture.{Picture}
 use Rattle.life_pictures.specs.declared.draw_job.Picture.TheVariants.{Text, Svg, Animation}
 use Rattle.life_pictures.specs.Lines.{text}

@@ -8,7 +8,7 @@ use Rattle.life_words.specs.declared.fault.WordFault.{WordFault}
 use Rattle.life_words.specs.Words.{Answers}
 use Rattle.life_jobs.specs.declared.stop.Stop.{Stop}
 use Rattle.life_jobs.specs.declared.stop.Stop.TheVariants.{OutOfLimit}
-use Rattle.life_jobs.specs.Jobs.{PutsKnown}
+use Rattle.life_jobs.specs.PatternJobs.{PutsKnown}
 use Rattle.life_jobs.specs.Streams.{TakesFile, PutsOnce}
 use Rattle.life_program.specs.Job.{IsStatus, line_after, status_after, status_by}
 use Rattle.life_pictures.specs.declared.draw_job.Picture.{Picture}

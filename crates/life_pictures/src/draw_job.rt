@@ -1,7 +1,7 @@
 //! Drawing the pattern file on the input.
 ghost use Rattle.std.specs.Prelude.{◌≡◌, ◌↔◌, IsTrue, IfOk, Err};
 ghost use Rattle.life_rle.specs.Record.{IsInside};
-ghost use Rattle.life_jobs.specs.Jobs.{PutsKnown};
+ghost use Rattle.life_jobs.specs.PatternJobs.{PutsKnown};
 ghost use Rattle.life_jobs.specs.Streams.{TakesFile, PutsText, PutsOnce};
 ghost use Rattle.life_pictures.specs.Jobs.{IsGood, drawn, picture_text};
 

@@ -14,10 +14,11 @@ use Rattle.life_words.specs.Words.{Answers, asked_by, Asked, AsksGeneration, Ask
 use Rattle.life_words.specs.Words.{AsksDeposit, AsksServe, AsksCheck, AsksExplain}
 use Rattle.life_jobs.specs.declared.stop.Stop.{Stop}
 use Rattle.life_jobs.specs.declared.stop.Stop.TheVariants.{OutOfLimit, Unwritable}
-use Rattle.life_jobs.specs.Stop.{line_of}
+use Rattle.life_jobs.specs.JobStop.{line_of}
 use Rattle.life_words.specs.Explain.{explanation_text}
-use Rattle.life_jobs.specs.Jobs.{generation_text, kind_text, census_text, IsPeriodLimit, AreCensusNumbers, PutsKnown}
-use Rattle.life_jobs.specs.Jobs.{PutsObject}
+use Rattle.life_jobs.specs.PatternJobs.{generation_text, kind_text, census_text, IsPeriodLimit, AreCensusNumbers}
+use Rattle.life_jobs.specs.PatternJobs.{PutsKnown}
+use Rattle.life_jobs.specs.PatternJobs.{PutsObject}
 use Rattle.life_jobs.specs.Streams.{PutsText, TakesFile, PutsOnce}
 
 -- a job over a file, a code or a name: its numbers are checked first, and then it writes its text or says why it can't

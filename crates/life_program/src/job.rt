@@ -1,6 +1,6 @@
 //! Running the job that the arguments name, on any streams.
 ghost use Rattle.std.specs.Prelude.{◌≡◌, ℕ, Bool, List, Option, None, Some, Err, MatchResult};
-ghost use Rattle.life_jobs.specs.Stop.{line_of};
+ghost use Rattle.life_jobs.specs.JobStop.{line_of};
 ghost use Rattle.life_jobs.specs.declared.stop.Stop.{Stop as StopValue};
 ghost use Rattle.life_words.specs.Words.{asked_by};
 ghost use Rattle.life_rle.specs.declared.stream.Inlet as inlet;

@@ -1,8 +1,8 @@
 use Rattle.std.proofs.Common.{None, Some, sym, ap, ◌∙◌}
 use Rattle.std.specs.Prelude.{option_map}
 use Rattle.life_words.proofs.WordsLemmas.{answer_to_fault, asked_of}
-use Rattle.life_hauls.specs.Words.{haul_app, asked_by, job_of, words_job}
-use Rattle.life_hauls.proofs.WordsLemmas.{is_haul_simple, is_haul_free}
+use Rattle.life_hauls.specs.HaulWords.{haul_app, asked_by, job_of, words_job}
+use Rattle.life_hauls.proofs.HaulWordsLemmas.{is_haul_simple, is_haul_free}
 use Rattle.life_hauls.proofs.haul_arguments.read_words.Goals as goal
 
 pub returns-in_err-matches : goal.returns-in_err-matches

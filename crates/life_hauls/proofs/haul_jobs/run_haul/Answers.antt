@@ -1,7 +1,7 @@
 use Rattle.std.proofs.Common.{sym, ap, ◌∙◌}
 use Rattle.life_core.specs.RuleText.{read_rule}
-use Rattle.life_hauls.proofs.JobsLemmas.{puts_under}
-use Rattle.life_hauls.specs.Jobs.{MayBeAsked, haul_text}
+use Rattle.life_hauls.proofs.HaulJobsLemmas.{puts_under}
+use Rattle.life_hauls.specs.HaulJobs.{MayBeAsked, haul_text}
 use Rattle.life_hauls.proofs.haul_jobs.run_haul.Goals as goal
 
 pub returns-in-Ok-table-clause-puts : goal.returns-in-Ok-table-clause-puts

@@ -1,7 +1,7 @@
 use Rattle.std.proofs.Common.{rules, sym, ap, ◌∙◌}
 use Rattle.life_core.specs.RuleText.{read_rule}
-use Rattle.life_hauls.proofs.JobsLemmas.{puts_under}
-use Rattle.life_hauls.specs.Jobs.{MaySoupBeAsked, soup_text}
+use Rattle.life_hauls.proofs.HaulJobsLemmas.{puts_under}
+use Rattle.life_hauls.specs.HaulJobs.{MaySoupBeAsked, soup_text}
 use Rattle.life_hauls.proofs.haul_jobs.run_soup.Goals as goal
 
 pub returns-in-Ok-soup_file-clause-puts : goal.returns-in-Ok-soup_file-clause-puts

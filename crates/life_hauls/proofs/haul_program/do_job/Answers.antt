@@ -1,7 +1,7 @@
 use Rattle.std.proofs.Common.{rules, ◌≡◌, sym, subst}
 use Rattle.life_hauls.specs.declared.haul_arguments.Job.{Job}
 use Rattle.life_hauls.specs.declared.haul_arguments.Job.TheVariants.{Haul, Soup}
-use Rattle.life_hauls.specs.Program.{DoesJob}
+use Rattle.life_hauls.specs.HaulProgram.{DoesJob}
 use Rattle.life_hauls.proofs.haul_program.do_job.Goals as goal
 
 pub returns-in-Haul-clause-does : goal.returns-in-Haul-clause-does

@@ -1,6 +1,6 @@
 use Rattle.std.proofs.Common.{refl}
-use Rattle.life_hauls.specs.Program.{has_fault}
-use Rattle.life_hauls.proofs.ProgramLemmas.{ends_by}
+use Rattle.life_hauls.specs.HaulProgram.{has_fault}
+use Rattle.life_hauls.proofs.HaulProgramLemmas.{ends_by}
 use Rattle.life_hauls.proofs.haul_program.run_words.Goals as goal
 
 pub returns-in-Ok : goal.returns-in-Ok

@@ -1,6 +1,6 @@
 use Rattle.std.proofs.Common.{rules, arith}
 use Rattle.std.proofs.lemmas.List.Sorted.{IsPartitionPoint-from_clause}
-use Rattle.life_hauls.proofs.RowLemmas.{below, rows_parted, gt_is_greater, gt_is_not}
+use Rattle.life_hauls.proofs.HaulRowLemmas.{below, rows_parted, gt_is_greater, gt_is_not}
 use Rattle.life_hauls.proofs.soup_counting.first_not_below.Goals as goal
 
 pub returns-clause-before : goal.returns-clause-before

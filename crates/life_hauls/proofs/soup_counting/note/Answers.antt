@@ -1,5 +1,5 @@
 use Rattle.std.proofs.Common.{rules}
-use Rattle.life_hauls.proofs.RowLemmas.{new_row_at, old_row_at}
+use Rattle.life_hauls.proofs.HaulRowLemmas.{new_row_at, old_row_at}
 use Rattle.life_hauls.proofs.soup_counting.note.Goals as goal
 
 pub returns-in_ok-seen-in-Ok : goal.returns-in_ok-seen-in-Ok

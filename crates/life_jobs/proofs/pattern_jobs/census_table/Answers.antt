@@ -3,7 +3,7 @@ use Rattle.std.proofs.Common.{◌+◌, ◌-◌, ap, sym, subst, arith}
 use Rattle.life_core.specs.Pattern.{Cells, IsWithin}
 use Rattle.life_core.proofs.GenerationsLaws.{within_more}
 use Rattle.life_rle.specs.Record.{Contents}
-use Rattle.life_jobs.proofs.JobsLemmas.{table_of_record}
+use Rattle.life_jobs.proofs.PatternJobsLemmas.{table_of_record}
 use Rattle.life_jobs.proofs.pattern_jobs.census_table.Goals as goal
 
 pub tally-requires : goal.tally-requires

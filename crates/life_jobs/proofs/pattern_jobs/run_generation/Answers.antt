@@ -1,7 +1,7 @@
 use Rattle.std.proofs.Common.{ap}
 use Rattle.life_rle.specs.Writer.{text}
-use Rattle.life_jobs.specs.Jobs.{later}
-use Rattle.life_jobs.proofs.JobsLemmas.{stops_at_input, puts_text}
+use Rattle.life_jobs.specs.PatternJobs.{later}
+use Rattle.life_jobs.proofs.PatternJobsLemmas.{stops_at_input, puts_text}
 use Rattle.life_jobs.proofs.pattern_jobs.run_generation.Goals as goal
 
 pub returns-in-Err-clause-known : goal.returns-in-Err-clause-known

@@ -1,6 +1,6 @@
 use Rattle.std.proofs.Common.{ap}
-use Rattle.life_jobs.specs.Jobs.{kind_line}
-use Rattle.life_jobs.proofs.JobsLemmas.{stops_at_input, puts_text}
+use Rattle.life_jobs.specs.PatternJobs.{kind_line}
+use Rattle.life_jobs.proofs.PatternJobsLemmas.{stops_at_input, puts_text}
 use Rattle.life_jobs.proofs.pattern_jobs.run_kind.Goals as goal
 
 pub returns-in-Err-clause-known : goal.returns-in-Err-clause-known

@@ -1,7 +1,7 @@
 use Rattle.std.proofs.Common.{ap, ◌∙◌, sym}
 use Rattle.life_core.specs.RuleText.{read_rule}
 use Rattle.life_rle.specs.Writer.{text}
-use Rattle.life_jobs.proofs.JobsLemmas.{refuses_code, puts_object}
+use Rattle.life_jobs.proofs.PatternJobsLemmas.{refuses_code, puts_object}
 use Rattle.life_jobs.proofs.pattern_jobs.run_object.Goals as goal
 
 pub returns-in-Err-clause-puts : goal.returns-in-Err-clause-puts

@@ -2,7 +2,7 @@
 use Rattle.std.proofs.Common.{◌≡◌, true, refl}
 use Rattle.clap.proofs.OnLiterals.{clap_on_literals}
 use Rattle.clap.specs.Words.{is_simple, is_simple_and_free}
-use Rattle.life_hauls.specs.Words.{haul_app}
+use Rattle.life_hauls.specs.HaulWords.{haul_app}
 
 pub is_haul_simple : is_simple haul_app ≡ true
 unfolding clap_on_literals

@@ -10,7 +10,7 @@ use Rattle.life_code.specs.Codes.{code_of}
 use Rattle.life_census.specs.Cluster.{clusters_of}
 use Rattle.life_census.specs.Rows.{TallyCounts}
 use Rattle.life_census.specs.Counting.{row_cmp, tally_of}
-use Rattle.life_hauls.specs.declared.rows.Occurrences.{Occurrences}
+use Rattle.life_hauls.specs.declared.haul_rows.Occurrences.{Occurrences}
 use Rattle.life_hauls.specs.Hauls.{HaulCounts, seen, joined, together, haul_of}
 use Rattle.life_hauls.specs.declared.symmetry.Symmetry.{Symmetry}
 use Rattle.life_hauls.specs.Soups.{soup_of}

@@ -3,10 +3,10 @@ ghost use Rattle.std.specs.Prelude.{◌≡◌, ◌++◌, map, IfOk, OnOk};
 ghost use Rattle.std.specs.Fmt.{decimal};
 ghost use Rattle.std.specs.List.{flat_map};
 ghost use Rattle.life_hauls.specs.Hauls.{row_seen};
-ghost use Rattle.life_hauls.specs.Table.{named, symmetry_line, heading, occurrences_text, unresolved_text, line, counts_text, sums_text, csv_text};
+ghost use Rattle.life_hauls.specs.HaulTable.{named, symmetry_line, heading, occurrences_text, unresolved_text, line, counts_text, sums_text, csv_text};
 
+use crate::haul_rows::{Haul, HaulRow, Occurrences};
 use crate::hauls::HaulQuestion;
-use crate::rows::{Haul, HaulRow, Occurrences};
 use crate::symmetry::Symmetry;
 use itoa::Buffer;
 use life_core::Fault;
@@ -52,7 +52,7 @@ fn put_heading<A: Allocator>(
 }
 
 /// Writes the line of a symmetry. `C1` has none: tables are older than the other symmetries, and did not change.
-#[tactic(auto, unfolding(crate::specs::Table::symmetry_line))]
+#[tactic(auto, unfolding(crate::specs::HaulTable::symmetry_line))]
 fn put_symmetry<A: Allocator>(out: &mut Vec<u8, A>, symmetry: Symmetry) -> Result<(), AllocError>
     ensures { OnOk result (out.new.items ≡ out.old.items ++ symmetry_line symmetry) }
 {
@@ -63,7 +63,7 @@ fn put_symmetry<A: Allocator>(out: &mut Vec<u8, A>, symmetry: Symmetry) -> Resul
 }
 
 /// Writes the line of a name and a text.
-#[tactic(auto, unfolding(crate::specs::Table::named))]
+#[tactic(auto, unfolding(crate::specs::HaulTable::named))]
 fn put_named<A: Allocator>(out: &mut Vec<u8, A>, name: &[u8], text: &[u8]) -> Result<(), AllocError>
     ensures { OnOk result (out.new.items ≡ out.old.items ++ named name.now text.now) }
 {

@@ -6,7 +6,7 @@ use Rattle.life_core.specs.RuleText.{read_rule}
 use Rattle.life_rle.specs.Record.{plain}
 use Rattle.life_rle.specs.Stream.{Appends, AppendsSome}
 use Rattle.life_rle.specs.Writer.{text}
-use Rattle.life_jobs.specs.Jobs.{AreCensusNumbers, RefusesRule}
+use Rattle.life_jobs.specs.PatternJobs.{AreCensusNumbers, RefusesRule}
 use Rattle.life_jobs.specs.declared.stop.Stop.{Stop}
 use Rattle.life_jobs.specs.declared.stop.Stop.TheVariants.{OutOfLimit, BadRule, Unavailable, Unwritable}
 use Rattle.life_hauls.specs.declared.haul_jobs.TheConstants.{COUNT_LIMIT, FIRST_LIMIT}
@@ -14,7 +14,7 @@ use Rattle.life_hauls.specs.declared.haul_jobs.HaulWords.{HaulWords}
 use Rattle.life_hauls.specs.declared.haul_jobs.SoupWords.{SoupWords}
 use Rattle.life_hauls.specs.Hauls.{haul_of}
 use Rattle.life_hauls.specs.Soups.{soup_of}
-use Rattle.life_hauls.specs.Table.{csv_text}
+use Rattle.life_hauls.specs.HaulTable.{csv_text}
 
 -- whether a byte is graphic ASCII
 abbrev pub is_graphic : ℕ → Bool

@@ -6,8 +6,8 @@ use Rattle.life_jobs.specs.declared.stop.Stop.{Stop}
 use Rattle.life_jobs.specs.Streams.{PutsOnce}
 use Rattle.life_program.specs.Job.{IsStatus}
 use Rattle.life_hauls.specs.declared.haul_arguments.Job.{Job}
-use Rattle.life_hauls.specs.Words.{Asked, asked_by}
-use Rattle.life_hauls.specs.Program.{DoesJob, HaulEnd, does}
+use Rattle.life_hauls.specs.HaulWords.{Asked, asked_by}
+use Rattle.life_hauls.specs.HaulProgram.{DoesJob, HaulEnd, does}
 
 module _ {O E : Type 0} (o : outlet.Ghosts O) (words : Option Asked) (output sent : O) (result : Result ExitCode E)
     (job : Job) where

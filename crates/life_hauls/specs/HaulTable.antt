@@ -6,7 +6,7 @@ use Rattle.std.specs.List.{flat_map}
 use Rattle.life_core.specs.Ascii.{line_feed, comma}
 use Rattle.life_core.specs.Rule.{RuleSets}
 use Rattle.life_core.specs.RuleText.{rule_text}
-use Rattle.life_hauls.specs.declared.rows.Occurrences.{Occurrences}
+use Rattle.life_hauls.specs.declared.haul_rows.Occurrences.{Occurrences}
 use Rattle.life_hauls.specs.declared.symmetry.Symmetry.{Symmetry}
 use Rattle.life_hauls.specs.declared.symmetry.Symmetry.TheVariants.{C1}
 use Rattle.life_hauls.specs.Hauls.{HaulCounts}

@@ -1,8 +1,8 @@
 use Rattle.std.proofs.Common.{◌≡◌, ◌++◌, map, drop}
 use Rattle.std.specs.List.{flat_map}
 use Rattle.life_hauls.specs.Hauls.{row_seen}
-use Rattle.life_hauls.specs.Table.{line}
-use Rattle.life_hauls.proofs.table.put_rows.Given as goal
+use Rattle.life_hauls.specs.HaulTable.{line}
+use Rattle.life_hauls.proofs.haul_table.put_rows.Given as goal
 
 abbrev pub invariant-loop-row : goal.invariant-loop-row
 invariant-loop-row g l =

@@ -12,8 +12,8 @@ use Rattle.std.proofs.lemmas.Bool.{false≢true, cases_lt}
 use Rattle.std.proofs.lemmas.List.{get_or_default}
 use Rattle.life_census.specs.Counting.{row_cmp}
 use Rattle.life_census.proofs.CountingLaws.{row_cmp_total, both_T, less_T}
-use Rattle.life_hauls.specs.declared.rows.Occurrences.{Occurrences}
-use Rattle.life_hauls.specs.declared.rows.HaulRow.{HaulRow}
+use Rattle.life_hauls.specs.declared.haul_rows.Occurrences.{Occurrences}
+use Rattle.life_hauls.specs.declared.haul_rows.HaulRow.{HaulRow}
 use Rattle.life_hauls.specs.Hauls.{row_seen, more}
 use Rattle.life_hauls.specs.HaulsState.{once, noted, AreBelow, IsRowOf, IsPlaceFor}
 use Rattle.life_hauls.proofs.HaulRows.{Rows, IsSorted, found}

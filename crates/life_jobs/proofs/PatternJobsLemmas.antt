@@ -21,9 +21,9 @@ use Rattle.life_census.specs.CensusTable.{csv_text}
 use Rattle.life_jobs.specs.declared.stop.Stop.{Stop}
 use Rattle.life_jobs.specs.declared.stop.Stop.TheVariants.{OutOfLimit, BadPattern, BadRule, BadCode, Unreadable}
 use Rattle.life_jobs.specs.declared.stop.Stop.TheVariants.{Unavailable, Unwritable}
-use Rattle.life_jobs.specs.Jobs.{IsPeriodLimit, file_text, census_table, PrintsObject, PutsObject}
-use Rattle.life_jobs.specs.Jobs.{PutsKnown}
-use Rattle.life_jobs.specs.JobsState.{code_stop}
+use Rattle.life_jobs.specs.PatternJobs.{IsPeriodLimit, file_text, census_table, PrintsObject, PutsObject}
+use Rattle.life_jobs.specs.PatternJobs.{PutsKnown}
+use Rattle.life_jobs.specs.PatternJobsState.{code_stop}
 use Rattle.life_jobs.specs.Streams.{ReadsKnown, PutsText}
 
 -- ---- jobs that print a text for a file

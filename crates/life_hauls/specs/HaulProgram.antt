@@ -7,13 +7,13 @@ use Rattle.life_words.specs.declared.fault.WordFault.{WordFault}
 use Rattle.life_words.specs.Words.{Answers}
 use Rattle.life_jobs.specs.declared.stop.Stop.{Stop}
 use Rattle.life_jobs.specs.declared.stop.Stop.TheVariants.{OutOfLimit, BadRule}
-use Rattle.life_jobs.specs.Jobs.{RefusesRule}
+use Rattle.life_jobs.specs.PatternJobs.{RefusesRule}
 use Rattle.life_jobs.specs.Streams.{PutsOnce}
 use Rattle.life_program.specs.Job.{IsStatus, line_after, status_after, status_by}
 use Rattle.life_hauls.specs.declared.haul_arguments.Job.{Job}
 use Rattle.life_hauls.specs.declared.haul_arguments.Job.TheVariants.{Haul, Soup}
-use Rattle.life_hauls.specs.Jobs.{MayBeAsked, PutsHaul, MaySoupBeAsked, PutsSoup}
-use Rattle.life_hauls.specs.Words.{Asked, asked_by}
+use Rattle.life_hauls.specs.HaulJobs.{MayBeAsked, PutsHaul, MaySoupBeAsked, PutsSoup}
+use Rattle.life_hauls.specs.HaulWords.{Asked, asked_by}
 
 -- What a job with valid arguments puts, and when it is refused: first for its numbers and its root, then for its rule.
 pub record DoesIfAsked (MayBe : Type 0) (rule : List ℕ) (Puts : Result (Unit {0}) Stop → Type 0)

@@ -8,7 +8,7 @@ use Rattle.life_jobs.specs.Streams.{PutsText}
 use Rattle.life_jobs.specs.declared.stop.Stop.{Stop}
 use Rattle.life_jobs.specs.declared.stop.Stop.TheVariants.{OutOfLimit, BadPattern, BadRule, BadCode, Unreadable}
 use Rattle.life_jobs.specs.declared.stop.Stop.TheVariants.{Unavailable, Unwritable}
-use Rattle.life_hauls.specs.Jobs.{PutsUnderRule}
+use Rattle.life_hauls.specs.HaulJobs.{PutsUnderRule}
 
 -- what is answered if a text is put, which is the one that is wanted under the rule
 pub puts_under : (MayBe : Type 0) (name : List ℕ) (wanted : RuleSets → List ℕ) (rule : RuleSets)

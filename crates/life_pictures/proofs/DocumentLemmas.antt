@@ -7,7 +7,7 @@ use Rattle.life_core.specs.Pattern.{Cells, in_order, corner, normal}
 use Rattle.life_core.specs.Rule.{RuleSets}
 use Rattle.life_rle.specs.Record.{Contents}
 use Rattle.life_rle.specs.Writer.{coordinates, pairs_of, width_of, height_of}
-use Rattle.life_pictures.specs.Runs.{runs_of, run_path, path}
+use Rattle.life_pictures.specs.PictureRuns.{runs_of, run_path, path}
 use Rattle.life_pictures.specs.Document.{front, svg}
 use Rattle.life_pictures.specs.Frames.{trail, animated_path, moving}
 

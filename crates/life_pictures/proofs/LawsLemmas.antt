@@ -4,10 +4,11 @@ use Rattle.std.proofs.Common.{replicate, refl, ap, ◌∙◌, sym, subst, arith,
 use Rattle.std.specs.List.{flat_map}
 use Rattle.std.proofs.lemmas.Bool.{eqb-true}
 use Rattle.life_rle.specs.Body.{run}
-use Rattle.life_pictures.specs.declared.runs.Run.{Run}
-use Rattle.life_pictures.specs.Runs.{is_right_of, run_from, before_runs, cells_of_run, runs_of}
-use Rattle.life_pictures.specs.Lines.{before_cells, trimmed}
-use Rattle.life_pictures.specs.Laws.{AreMaximalRuns, DeadAreLeftOut, LinesEndLive, RunsAreTheCells, RunsAreLongest}
+use Rattle.life_pictures.specs.declared.picture_runs.Run.{Run}
+use Rattle.life_pictures.specs.PictureRuns.{is_right_of, run_from, before_runs, cells_of_run, runs_of}
+use Rattle.life_pictures.specs.PictureLines.{before_cells, trimmed}
+use Rattle.life_pictures.specs.PictureLaws.{AreMaximalRuns, DeadAreLeftOut, LinesEndLive, RunsAreTheCells}
+use Rattle.life_pictures.specs.PictureLaws.{RunsAreLongest}
 
 both : (a b : Bool) → (a && b) ≡ true → (a ≡ true) × (b ≡ true)
 both true true holds = (refl, refl)

@@ -1,11 +1,11 @@
 pub mod CornersLemmas
 pub mod DocumentLemmas
 pub mod ExtentLemmas
-pub mod FramesLemmas
+pub mod PictureFramesLemmas
 pub mod LawsLemmas
-mod LinesLemmas
+mod PictureLinesLemmas
 pub mod PartLemmas
-pub mod RunsLemmas
+pub mod PictureRunsLemmas
 pub mod TitleLemmas
-pub mod WordsLemmas
-pub mod ProgramLemmas
+pub mod DrawWordsLemmas
+pub mod DrawProgramLemmas

@@ -11,7 +11,7 @@ use Rattle.std.proofs.lemmas.List.{append-nil}
 use Rattle.std.proofs.lemmas.List.Elements.{All-nil, All-append, All-from_recursion}
 use Rattle.std.proofs.lemmas.Str.{inside_one}
 use Rattle.life_pictures.specs.Title.{is_xml_char, escaped, xml_text}
-use Rattle.life_pictures.specs.Laws.{NamesStayText}
+use Rattle.life_pictures.specs.PictureLaws.{NamesStayText}
 
 -- it is not `<`
 abbrev IsOther : ℕ → Type 0

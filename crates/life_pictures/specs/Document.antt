@@ -3,7 +3,7 @@ use Rattle.std.specs.Prelude.{ℕ, ◌+◌, List, ◌++◌, codes, Option}
 use Rattle.life_rle.specs.Record.{Contents}
 use Rattle.life_rle.specs.Writer.{pairs_of, width_of, height_of}
 use Rattle.life_pictures.specs.Numbers.{with_number}
-use Rattle.life_pictures.specs.Runs.{path}
+use Rattle.life_pictures.specs.PictureRuns.{path}
 use Rattle.life_pictures.specs.Title.{title}
 
 -- the document's element with its view box: a box of this size and a margin of one cell

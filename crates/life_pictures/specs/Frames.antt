@@ -11,7 +11,7 @@ use Rattle.life_core.specs.Generations.{generation_of}
 use Rattle.life_rle.specs.Record.{Contents}
 use Rattle.life_rle.specs.Writer.{pairs_of, width_of, height_of}
 use Rattle.life_pictures.specs.Numbers.{with_number}
-use Rattle.life_pictures.specs.Runs.{path}
+use Rattle.life_pictures.specs.PictureRuns.{path}
 use Rattle.life_pictures.specs.Document.{front}
 
 -- the cells of X and of its next generations, this many in all

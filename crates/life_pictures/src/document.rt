@@ -4,7 +4,7 @@ ghost use Rattle.life_pictures.specs.Document.{opening, background, front, svg};
 
 use crate::extent::{Extent, extent_of};
 use crate::numbers::put_numbered;
-use crate::runs::put_path;
+use crate::picture_runs::put_path;
 use crate::title::put_title;
 use life_core::Fault;
 use life_rle::{Record, Text};

@@ -2,7 +2,7 @@
 ghost use Rattle.std.specs.Prelude.{◌≡◌, map, IfOk};
 ghost use Rattle.clap.specs.Words.{app_of, subcommand_rows_of};
 ghost use Rattle.life_words.specs.Words.{MakesCommand, by_subcommand, Answers};
-ghost use Rattle.life_pictures.specs.Words.{animation_app, draw_alone, draw, picture_named, words_picture};
+ghost use Rattle.life_pictures.specs.DrawWords.{animation_app, draw_alone, draw, picture_named, words_picture};
 
 use crate::draw_job::Picture;
 use clap::{ArgMatches, Command};

@@ -3,11 +3,11 @@ ghost use Rattle.std.specs.Prelude.{◌≡◌, ◌↔◌, IsTrue, IfOk, Err};
 ghost use Rattle.life_rle.specs.Record.{IsInside};
 ghost use Rattle.life_jobs.specs.PatternJobs.{PutsKnown};
 ghost use Rattle.life_jobs.specs.Streams.{TakesFile, PutsText, PutsOnce};
-ghost use Rattle.life_pictures.specs.Jobs.{IsGood, drawn, picture_text};
+ghost use Rattle.life_pictures.specs.DrawJobs.{IsGood, drawn, picture_text};
 
 use crate::document::svg;
-use crate::frames::{MOST_FRAMES, animation};
-use crate::lines::text;
+use crate::picture_frames::{MOST_FRAMES, animation};
+use crate::picture_lines::text;
 use life_core::{Fault, GENERATION_LIMIT};
 use life_jobs::{Stop, put_text, read_input};
 use life_rle::{Inlet, Outlet, Record};

@@ -1,8 +1,8 @@
 //! From the arguments of `life-draw` to its status.
 ghost use Rattle.std.specs.Prelude.{map, MatchResult};
 ghost use Rattle.life_program.specs.Job.{IsStatus};
-ghost use Rattle.life_pictures.specs.Words.{words_picture};
-ghost use Rattle.life_pictures.specs.Program.{DrawEnd};
+ghost use Rattle.life_pictures.specs.DrawWords.{words_picture};
+ghost use Rattle.life_pictures.specs.DrawProgram.{DrawEnd};
 
 use crate::draw_arguments::{draw_command, read_words};
 use crate::draw_job::run_draw;

@@ -1,8 +1,8 @@
 //! What holds of all pictures.
 ghost use Rattle.std.specs.Prelude.{◌≡◌};
-ghost use Rattle.life_pictures.specs.Laws.{DeadAreLeftOut, LinesEndLive, RunsAreTheCells, RunsAreLongest, NamesStayText, FramesAreInTheBox};
+ghost use Rattle.life_pictures.specs.PictureLaws.{DeadAreLeftOut, LinesEndLive, RunsAreTheCells, RunsAreLongest, NamesStayText, FramesAreInTheBox};
 
-use crate::frames::MOST_FRAMES;
+use crate::picture_frames::MOST_FRAMES;
 
 /// What makes the definitions of pictures believable: a line leaves out the dead cells at its end and nothing else; the runs of a path have
 /// exactly the cells, and no two neighbouring runs could be one; no name ends its title; each frame of an animation lies in the

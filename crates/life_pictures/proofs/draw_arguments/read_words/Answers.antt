@@ -1,8 +1,8 @@
 use Rattle.std.proofs.Common.{None, Some}
 use Rattle.life_words.specs.Words.{by_subcommand}
 use Rattle.life_words.proofs.WordsLemmas.{answer_to_fault, asked_of}
-use Rattle.life_pictures.specs.Words.{draw, picture_named, words_picture}
-use Rattle.life_pictures.proofs.WordsLemmas.{is_draw_simple, is_draw_free}
+use Rattle.life_pictures.specs.DrawWords.{draw, picture_named, words_picture}
+use Rattle.life_pictures.proofs.DrawWordsLemmas.{is_draw_simple, is_draw_free}
 use Rattle.life_pictures.proofs.draw_arguments.read_words.Goals as goal
 
 pub returns-in_err-matches : goal.returns-in_err-matches

@@ -1,6 +1,6 @@
 use Rattle.std.specs.Prelude.{refl}
 use Rattle.life_jobs.proofs.PatternJobsLemmas.{stops_at_input, puts_text}
-use Rattle.life_pictures.specs.Jobs.{drawn}
+use Rattle.life_pictures.specs.DrawJobs.{drawn}
 use Rattle.life_pictures.proofs.draw_job.run_draw.Goals as goal
 
 pub returns-in-Err-clause-known : goal.returns-in-Err-clause-known

@@ -1,6 +1,6 @@
 use Rattle.std.proofs.Common.{refl}
-use Rattle.life_pictures.specs.Program.{has_fault}
-use Rattle.life_pictures.proofs.ProgramLemmas.{ends_by}
+use Rattle.life_pictures.specs.DrawProgram.{has_fault}
+use Rattle.life_pictures.proofs.DrawProgramLemmas.{ends_by}
 use Rattle.life_pictures.proofs.draw_program.run_words.Goals as goal
 
 pub returns-in-Ok : goal.returns-in-Ok

@@ -1,6 +1,6 @@
 use Rattle.std.proofs.Common.{refl}
 use Rattle.life_pictures.proofs.LawsLemmas.{dead_are_left_out, lines_end_live, runs_are_the_cells, runs_are_longest}
-use Rattle.life_pictures.proofs.FramesLemmas.{frames_are_in_the_box}
+use Rattle.life_pictures.proofs.PictureFramesLemmas.{frames_are_in_the_box}
 use Rattle.life_pictures.proofs.TitleLemmas.{names_stay_text}
 use Rattle.life_pictures.proofs.picture_laws.laws_of_pictures.Goals as goal
 

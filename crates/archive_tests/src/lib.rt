@@ -2,9 +2,9 @@
 #![tactic(auto)]
 
 #[cfg(test)]
-mod deposits;
+mod archive_file_tests;
 #[cfg(test)]
-mod files;
+mod deposit_tests;
 #[cfg(test)]
 mod loopback;
 #[cfg(test)]

@@ -5,7 +5,7 @@ ghost use Rattle.life_rle.specs.Stream.{incremented};
 ghost use Rattle.life_archive.specs.Session.{ServesOne};
 ghost use Rattle.archive_tests.specs.Sessions.{sends, streams_from};
 
-use crate::files::{Stoppable, Stopping, blank, stands};
+use crate::archive_file_tests::{Stoppable, Stopping, blank, stands};
 use crate::stops::again;
 use life_archive::{ArchiveStop, Connections, run_serve, serve_files};
 use life_rle::{MemoryOutlet, SliceInlet};

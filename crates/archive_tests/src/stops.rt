@@ -1,5 +1,5 @@
 //! A stop at each call on a file: while a deposit and a census are stored, and while an archive of schema version 1 is migrated.
-use crate::files::{
+use crate::archive_file_tests::{
     Outcome, Stoppable, Stopping, blank, made_by, over, schema_of, stands, stopping,
 };
 use crate::requests::{Asked, FIELD, FIELD_SHOWN, Row, Said};

@@ -4,8 +4,8 @@ ghost use Rattle.sqlite_wal.specs.Files.{image_at};
 ghost use Rattle.life_archive.specs.ArchivePath.{AnswersDeposit, AnswersServing, line_after};
 ghost use Rattle.life_check.specs.Report.{AnswersCheck, line_after as line_after_check};
 
+use crate::check_progress::CheckProgress;
 use crate::net::Port;
-use crate::progress::CheckProgress;
 use crate::reason::reason_of;
 use life_archive::{ArchiveStop, deposit_path, serve_path};
 use life_check::{CheckStop, run_check};
@@ -39,11 +39,11 @@ fn or_line_of_check(done: Result<(), CheckStop>) -> Result<(), &'static str>
 
 /// Archives in files on this machine. `start` is their initial content: what a job does is proved for any content.
 #[derive(Drop)]
-pub struct InFiles<T> {
+pub struct ArchiveFile<T> {
     pub start: T,
 }
 
-impl<T: Start> ArchiveJobs for InFiles<T> {
+impl<T: Start> ArchiveJobs for ArchiveFile<T> {
     ghost deposits = { λ I O i o file member token input rest output sent line.
         AnswersDeposit ⟦<FileFrom<T> as Disk>⟧ i o (image_at T.Start) 1000000 member token input rest output sent line };
 

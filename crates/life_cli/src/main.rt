@@ -2,13 +2,13 @@
 #![tactic(auto)]
 
 mod archives;
+mod check_progress;
 mod laws;
 mod net;
 mod peer;
-mod progress;
 mod reason;
 
-use archives::InFiles;
+use archives::ArchiveFile;
 pub use laws::law_of_checked_files;
 use life_program::run_program;
 use sqlite::Unknown;
@@ -17,5 +17,5 @@ use std::process::ExitCode;
 
 fn main(rt: HostRuntime) -> io::Result<ExitCode> {
     // The initial content of files on this machine is unknown, unless they are empty.
-    run_program(&rt, InFiles { start: Unknown })
+    run_program(&rt, ArchiveFile { start: Unknown })
 }

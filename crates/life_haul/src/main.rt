@@ -1,10 +1,10 @@
 //! The program `life-haul`: counts the objects in random soups, and prints single soups.
 #![tactic(auto)]
 
-mod progress;
+mod haul_progress;
 
+use haul_progress::Progress;
 use life_hauls::run_program;
-use progress::Progress;
 use std::io;
 use std::process::ExitCode;
 

@@ -3,7 +3,7 @@
 use Rattle.std.specs.Prelude.{◌≡◌, ◌↔◌, ℕ, List, Option, Some, Result, Err}
 use Rattle.std.specs.declared.process.ExitCode.{ExitCode}
 use Rattle.life_rle.specs.declared.stream.Outlet as outlet
-use Rattle.life_words.specs.declared.fault.WordFault.{WordFault}
+use Rattle.life_words.specs.declared.word_fault.WordFault.{WordFault}
 use Rattle.life_words.specs.Words.{Answers}
 use Rattle.life_jobs.specs.declared.stop.Stop.{Stop}
 use Rattle.life_jobs.specs.declared.stop.Stop.TheVariants.{OutOfLimit, BadRule}

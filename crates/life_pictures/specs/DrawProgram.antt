@@ -4,7 +4,7 @@ use Rattle.std.specs.Prelude.{◌≡◌, ◌↔◌, Option, Some, Result, Err}
 use Rattle.std.specs.declared.process.ExitCode.{ExitCode}
 use Rattle.life_rle.specs.declared.stream.Inlet as inlet
 use Rattle.life_rle.specs.declared.stream.Outlet as outlet
-use Rattle.life_words.specs.declared.fault.WordFault.{WordFault}
+use Rattle.life_words.specs.declared.word_fault.WordFault.{WordFault}
 use Rattle.life_words.specs.Words.{Answers}
 use Rattle.life_jobs.specs.declared.stop.Stop.{Stop}
 use Rattle.life_jobs.specs.declared.stop.Stop.TheVariants.{OutOfLimit}

@@ -8,8 +8,8 @@ use Rattle.std.specs.declared.process.ExitCode.{ExitCode}
 use Rattle.clap.specs.Words.{kind_of}
 use Rattle.clap.specs.declared.error.kind.ErrorKind.{ErrorKind}
 use Rattle.clap.specs.declared.error.kind.ErrorKind.TheVariants.{DisplayVersion}
-use Rattle.life_words.specs.declared.fault.WordFault.{WordFault}
-use Rattle.life_words.specs.declared.fault.WordFault.TheVariants.{BadWords, Memory}
+use Rattle.life_words.specs.declared.word_fault.WordFault.{WordFault}
+use Rattle.life_words.specs.declared.word_fault.WordFault.TheVariants.{BadWords, Memory}
 use Rattle.life_words.specs.Words.{Answers, asked_by, Asked, AsksGeneration, AsksKind, AsksObject, AsksCensus}
 use Rattle.life_words.specs.Words.{AsksDeposit, AsksServe, AsksCheck, AsksExplain}
 use Rattle.life_jobs.specs.declared.stop.Stop.{Stop}

@@ -7,7 +7,7 @@ ghost use Rattle.life_rle.specs.declared.stream.Inlet as inlet;
 ghost use Rattle.life_rle.specs.declared.stream.Outlet as outlet;
 ghost use Rattle.life_program.specs.Job.{DoesFileJob, UsesStreams, TakesNothing, DoesJob, line_after};
 
-use crate::explain::run_explain;
+use crate::explain_job::run_explain;
 use life_jobs::{Stop, run_census, run_generation, run_kind, run_object};
 use life_rle::{Inlet, Outlet};
 use life_words::Job;

@@ -2,16 +2,16 @@
 //! arguments of `life`, running the job.
 #![tactic(auto)]
 
-mod explain;
+mod explain_job;
 mod job;
 mod printing;
 mod program;
-mod progress;
-mod tip;
+mod progress_line;
+mod usage_hint;
 
-pub use explain::run_explain;
+pub use explain_job::run_explain;
 pub use job::{ArchiveJobs, do_job};
 pub use printing::{print_fault, print_stop};
 pub use program::{run_program, run_words};
-pub use progress::ProgressLine;
-pub use tip::print_fault_of;
+pub use progress_line::ProgressLine;
+pub use usage_hint::print_fault_of;

@@ -5,7 +5,7 @@ ghost use Rattle.life_program.specs.Job.{IsStatus, WordsEnd};
 
 use crate::job::{ArchiveJobs, do_job};
 use crate::printing::{print_fault, print_stop};
-use crate::tip::print_fault_of;
+use crate::usage_hint::print_fault_of;
 use life_jobs::Stop;
 use life_rle::{FromRead, FromWrite, Inlet, Outlet};
 use life_words::{Job, life_command, read_words, words_of};

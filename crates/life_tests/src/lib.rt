@@ -15,24 +15,24 @@ mod failures;
 #[cfg(test)]
 mod fields;
 #[cfg(test)]
-mod files;
+mod file_tests;
 #[cfg(test)]
 mod haul_command_lines;
 #[cfg(test)]
-mod hauls;
+mod haul_tests;
 #[cfg(test)]
 mod job_runs;
 pub mod job_streams;
 #[cfg(test)]
-mod kinds;
+mod kind_tests;
 #[cfg(test)]
 mod life_command_lines;
 #[cfg(test)]
 mod planes;
 pub mod refusing;
 #[cfg(test)]
-mod rows;
+mod row_tests;
 #[cfg(test)]
 mod rules;
 #[cfg(test)]
-mod settled;
+mod settled_tests;

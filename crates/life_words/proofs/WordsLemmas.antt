@@ -14,9 +14,9 @@ use Rattle.clap.specs.declared.error.Error.{Error}
 use Rattle.clap.specs.declared.error.kind.ErrorKind.TheVariants.{OutOfMemory}
 use Rattle.clap.specs.declared.builder.value_parser.ValueParser.TheVariants as vp
 use Rattle.clap.specs.declared.parser.matches.ArgMatches.{ArgMatches}
-use Rattle.life_words.specs.declared.fault.WordFault.{WordFault}
-use Rattle.life_words.specs.declared.fault.WordFault.TheVariants.{BadWords, Memory}
-use Rattle.life_words.specs.Fault.{ComesFrom}
+use Rattle.life_words.specs.declared.word_fault.WordFault.{WordFault}
+use Rattle.life_words.specs.declared.word_fault.WordFault.TheVariants.{BadWords, Memory}
+use Rattle.life_words.specs.WordFault.{ComesFrom}
 use Rattle.life_words.specs.Words.{last_number, life_app, number_text, Matches, matches_by, matches_in, unless_fault}
 use Rattle.life_words.specs.Words.{Answers}
 

@@ -1,3 +1,3 @@
 pub mod Explain
-pub mod Fault
+pub mod WordFault
 pub mod Words

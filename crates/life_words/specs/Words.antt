@@ -18,8 +18,8 @@ use Rattle.life_words.specs.Explain.{is_refusal}
 use Rattle.life_words.specs.declared.life_arguments.Job.{Job}
 use Rattle.life_words.specs.declared.life_arguments.Job.TheVariants.{Generation, Kind, Object, Census, Deposit, Serve}
 use Rattle.life_words.specs.declared.life_arguments.Job.TheVariants.{Check, Explain}
-use Rattle.life_words.specs.declared.fault.WordFault.{WordFault}
-use Rattle.life_words.specs.declared.fault.WordFault.TheVariants.{BadWords, Memory}
+use Rattle.life_words.specs.declared.word_fault.WordFault.{WordFault}
+use Rattle.life_words.specs.declared.word_fault.WordFault.TheVariants.{BadWords, Memory}
 
 -- ---- what the programs have in common
 

@@ -5,7 +5,7 @@ ghost use Rattle.clap.specs.Words.{Rule, new_app, app_of, rule_of, with_rule, wi
 ghost use Rattle.life_words.specs.Words.{number_rule, text_rule, with_version, matches_in, matches_by, Answers};
 ghost use Rattle.clap.specs.declared.builder.command.Command.TheViews.{out-Command as fields_of};
 
-use crate::fault::WordFault;
+use crate::word_fault::WordFault;
 use clap::error::ErrorKind;
 use clap::{Arg, ArgMatches, Command};
 use std::alloc::{AllocError, Global};

@@ -3,13 +3,13 @@
 
 mod commands;
 mod explain;
-mod fault;
 mod life_arguments;
+mod word_fault;
 
 pub use commands::{
     VERSION, generation_arg, limit_arg, named_command, number_arg, program_command, read_matches,
     text_arg, with_arg, with_command, words_of,
 };
 pub use explain::{explanation, refusal_names};
-pub use fault::WordFault;
 pub use life_arguments::{Job, life_command, number_in, read_words, text_in};
+pub use word_fault::WordFault;

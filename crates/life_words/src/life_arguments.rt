@@ -10,7 +10,7 @@ use crate::commands::{
     with_command,
 };
 use crate::explain::{explanation, refusal_names};
-use crate::fault::WordFault;
+use crate::word_fault::WordFault;
 use clap::builder::ValueParser;
 use clap::{Arg, ArgAction, ArgMatches, Command};
 use std::alloc::{AllocError, Global};

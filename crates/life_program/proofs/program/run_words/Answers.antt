@@ -1,7 +1,7 @@
 use Rattle.std.proofs.Common.{refl}
 use Rattle.life_words.specs.Words.{asked_by}
 use Rattle.life_program.specs.Job.{has_fault}
-use Rattle.life_program.proofs.WordsLemmas.{ends_by}
+use Rattle.life_program.proofs.ProgramWordsLemmas.{ends_by}
 use Rattle.life_program.proofs.program.run_words.Goals as goal
 
 pub returns-in-Ok : goal.returns-in-Ok

@@ -3,8 +3,8 @@ use Rattle.std.specs.Prelude.{◌≡◌, ◌≢◌, ℕ, None, Some}
 use Rattle.clap.specs.Words.{kind_of}
 use Rattle.clap.specs.declared.error.Error.{Error}
 use Rattle.clap.specs.declared.error.kind.ErrorKind.TheVariants.{OutOfMemory}
-use Rattle.life_words.specs.declared.fault.WordFault.{WordFault}
-use Rattle.life_words.specs.declared.fault.WordFault.TheVariants.{BadWords, Memory}
+use Rattle.life_words.specs.declared.word_fault.WordFault.{WordFault}
+use Rattle.life_words.specs.declared.word_fault.WordFault.TheVariants.{BadWords, Memory}
 
 -- the number of a fault
 abbrev pub number_of : WordFault → ℕ

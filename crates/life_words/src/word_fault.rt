@@ -1,6 +1,6 @@
 //! Why arguments name no job.
 ghost use Rattle.std.specs.Prelude.{◌≡◌};
-ghost use Rattle.life_words.specs.Fault.{number_of, ComesFrom};
+ghost use Rattle.life_words.specs.WordFault.{number_of, ComesFrom};
 
 use clap::Error;
 use clap::error::ErrorKind;
@@ -28,7 +28,7 @@ impl WordFault {
 }
 
 impl From<AllocError> for WordFault {
-    ghost use Rattle.life_words.specs.declared.fault.WordFault.TheVariants.{Memory};
+    ghost use Rattle.life_words.specs.declared.word_fault.WordFault.TheVariants.{Memory};
 
     ghost from_gives = { λ _ fault. fault ≡ Memory };
 

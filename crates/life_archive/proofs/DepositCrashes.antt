@@ -3,7 +3,7 @@ use Rattle.std.proofs.Common.{inl, inr, ℕ, List, [], ◌∷◌, Option, Result
 use Rattle.sqlite_trees.specs.declared.store.Store.{Ghosts}
 use Rattle.life_store.specs.Tables.{ArchiveView}
 use Rattle.life_desk.specs.declared.request.Request.TheVariants as requests
-use Rattle.life_desk.proofs.Runs.{IsSettled, crash_safe}
+use Rattle.life_desk.proofs.RequestRuns.{IsSettled, crash_safe}
 use Rattle.life_archive.specs.declared.archive_stop.ArchiveStop.{ArchiveStop}
 use Rattle.life_archive.specs.Deposit.{Deposits, IsDepositSafe}
 

@@ -16,7 +16,7 @@ use Rattle.life_desk.specs.declared.request.Request.TheVariants as requests
 use Rattle.life_desk.specs.Archive.{Archive}
 use Rattle.life_desk.specs.Represents.{Represents, kept_of, MigratedIsTheSame}
 use Rattle.life_desk.specs.Run.{RequestStep, IsDurable}
-use Rattle.life_desk.proofs.Runs.{IsSettled}
+use Rattle.life_desk.proofs.RequestRuns.{IsSettled}
 use Rattle.life_desk.proofs.Representing.{holds_of, each_of}
 use Rattle.life_pages.specs.ServedArchive.{IsTakenBy}
 use Rattle.life_archive.specs.declared.archive_stop.ArchiveStop.{ArchiveStop}

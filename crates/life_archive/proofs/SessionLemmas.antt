@@ -29,7 +29,7 @@ use Rattle.life_desk.specs.Validation.{validated}
 use Rattle.life_desk.specs.Represents.{EachHasDeposit, Represents, RecoveredRepresents, kept_of, MigratedIsTheSame}
 use Rattle.life_desk.specs.Run.{RequestStep}
 use Rattle.life_desk.proofs.Representing.{holds_of, each_of, represents_same}
-use Rattle.life_desk.proofs.Runs.{IsSettled}
+use Rattle.life_desk.proofs.RequestRuns.{IsSettled}
 use Rattle.life_desk.proofs.Steps.{step_each, after_each}
 use Rattle.life_pages.specs.declared.pages_fault.MessageRefusal.{MessageRefusal}
 use Rattle.life_pages.specs.Head.{Head}

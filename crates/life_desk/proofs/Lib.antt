@@ -1,5 +1,5 @@
 pub mod Representing
-pub mod Runs
+pub mod RequestRuns
 pub mod LaterArchives
 pub mod Submissions
 pub mod DepositsOnce

@@ -3,7 +3,7 @@ use Rattle.std.proofs.Common.{ℕ, List, Option, Result, Ok, Err, OnOk}
 use Rattle.sqlite_trees.specs.declared.store.Store.{Ghosts}
 use Rattle.life_rle.specs.Stream.{Appends, AppendsSome}
 use Rattle.life_store.specs.Tables.{ArchiveView}
-use Rattle.life_desk.proofs.Runs.{IsSettled}
+use Rattle.life_desk.proofs.RequestRuns.{IsSettled}
 use Rattle.life_pages.specs.declared.pages_fault.IoFault.{IoFault}
 use Rattle.life_pages.specs.Message.{Message, MessageRun, AnswersMessage}
 use Rattle.life_pages.specs.Serving.{AreAllOf, AreFirstOfStream, Served, RepliesCutShort}

@@ -30,7 +30,7 @@ use Rattle.life_store.specs.declared.kept.Deposit.{Deposit}
 use Rattle.life_store.specs.ExecutingState.{IsSeenAgain}
 use Rattle.life_store.specs.Kept.{Kept}
 use Rattle.life_store.specs.Layout.{archive_schema, deposits_table}
-use Rattle.life_store.proofs.Statements.{add_deposit_text, deposit_terms}
+use Rattle.life_store.proofs.StatementTexts.{add_deposit_text, deposit_terms}
 use Rattle.life_store.specs.Statements.{HoldNext}
 use Rattle.life_store.specs.Stored.{IsFiled, rows_by, deposit_cells}
 use Rattle.life_store.specs.DepositsState.{AreValuesOf}

@@ -26,8 +26,9 @@ use Rattle.sqlite_tied.specs.Compute.{everything}
 use Rattle.life_store.specs.Layout.{layout_table, deposits_table, censuses_table, census_rows_table, census_flags_table}
 use Rattle.life_store.specs.Layout.{key_index, no_schema, first_schema, archive_schema}
 use Rattle.life_store.specs.CreatingState.{HasTables, IsNewArchive}
-use Rattle.life_store.proofs.Statements.{layout_text, deposits_text, censuses_text, census_rows_text, census_flags_text}
-use Rattle.life_store.proofs.Statements.{add_version_text}
+use Rattle.life_store.proofs.StatementTexts.{layout_text, deposits_text, censuses_text, census_rows_text}
+use Rattle.life_store.proofs.StatementTexts.{census_flags_text}
+use Rattle.life_store.proofs.StatementTexts.{add_version_text}
 use Rattle.life_store.proofs.Texts.{layout_is, deposits_is, censuses_is, census_rows_is, census_flags_is}
 
 -- the tables as they come, one after another

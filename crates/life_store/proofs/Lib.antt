@@ -1,4 +1,4 @@
-pub mod Statements
+pub mod StatementTexts
 pub mod Selecting
 pub mod Texts
 pub mod KeepLemmas

@@ -30,7 +30,7 @@ use Rattle.life_store.specs.MigrationState.{HoldsFirstParts, IsFlaggedUpTo, IsMi
 use Rattle.life_store.specs.CensusesState.{Parts, HoldsParts, with_flag}
 use Rattle.life_store.specs.Kept.{Kept, Tallied, numbered}
 use Rattle.life_store.specs.Layout.{archive_schema, first_schema, census_flags_table}
-use Rattle.life_store.proofs.Statements.{census_flags_text}
+use Rattle.life_store.proofs.StatementTexts.{census_flags_text}
 use Rattle.life_store.specs.Stored.{IsFiled, rows_by, census_cells, count_cells, counts_from, tagged}
 use Rattle.life_store.specs.Tables.{tables_of, version_2, HasOrder}
 use Rattle.life_store.proofs.KeepLemmas.{Answered, IsUndone, not_answered, shown_unchanged, keeps_then}

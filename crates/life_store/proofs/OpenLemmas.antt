@@ -28,7 +28,7 @@ use Rattle.life_store.specs.OpeningState.{rows_of_version, schema_of}
 use Rattle.life_store.specs.declared.opening.Version.{Version}
 use Rattle.life_store.specs.Migration.{HoldsFirst}
 use Rattle.life_store.proofs.Selecting.{picked}
-use Rattle.life_store.proofs.Statements as st
+use Rattle.life_store.proofs.StatementTexts as st
 use Rattle.life_store.specs.Tables.{Tables, tables_of, Holds}
 use Rattle.life_store.proofs.Texts.{IsQueryOver, version_is, first_version_is}
 use Rattle.life_store.proofs.QueryLemmas.{ordered_answer, one_answer}

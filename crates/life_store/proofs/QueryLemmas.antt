@@ -18,7 +18,7 @@ use Rattle.sqlite_keyed.proofs.ListLemmas.{ascending-map, ascending_weaker}
 use Rattle.sqlite_value.specs.declared.keys.Key.{Key}
 use Rattle.sqlite_value.specs.Keys.{by_key}
 use Rattle.sqlite_sql.specs.Term.{eval}
-use Rattle.life_store.proofs.Statements.{ordered_query, rows_up_to}
+use Rattle.life_store.proofs.StatementTexts.{ordered_query, rows_up_to}
 use Rattle.life_store.proofs.Selecting.{is_picked, picked, shows}
 
 pub matches_are : (terms : List Term) (params : Row) (rows : List Row)

@@ -13,7 +13,7 @@ use Rattle.sqlite_sql.specs.Ops.{binary, is_true, from_truth}
 use Rattle.life_store.specs.declared.kept.Deposit.{Deposit}
 use Rattle.life_store.specs.Kept.{Tallied, is_of, is_census_of}
 use Rattle.life_store.proofs.Selecting.{is_picked}
-use Rattle.life_store.proofs.Statements.{has_token, has_id, is_after, of_census}
+use Rattle.life_store.proofs.StatementTexts.{has_token, has_id, is_after, of_census}
 use Rattle.life_store.specs.Stored.{deposit_cells, census_cells, count_cells}
 
 pub truth_is : (b : Bool) → is_true (from_truth (Some b)) ≡ b

@@ -29,7 +29,7 @@ use Rattle.life_store.specs.Migration.{version_1}
 use Rattle.life_store.specs.CensusesState.{Parts, HoldsParts}
 use Rattle.life_store.specs.Layout.{archive_schema, layout_table}
 use Rattle.life_store.proofs.Selecting.{picked, shows}
-use Rattle.life_store.proofs.Statements as st
+use Rattle.life_store.proofs.StatementTexts as st
 use Rattle.life_store.specs.Tables.{version_2}
 use Rattle.life_store.proofs.AddLemmas.{cast_int}
 use Rattle.life_store.proofs.InsertLemmas.{went, same_value}

@@ -1,4 +1,4 @@
-use Rattle.life_desk.proofs.Runs.{all_crash_safe}
+use Rattle.life_desk.proofs.RequestRuns.{all_crash_safe}
 use Rattle.life_desk.proofs.ReplyMeanings.{all_told_by, all_lasting_by}
 use Rattle.life_desk.proofs.desk.answer_all.Goals as goal
 

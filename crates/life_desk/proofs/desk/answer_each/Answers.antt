@@ -1,6 +1,6 @@
 use Rattle.std.proofs.Common.{arith, rules}
 use Rattle.std.proofs.lemmas.Grind.{common_steps}
-use Rattle.life_desk.proofs.Runs.{answered_none, answered_append}
+use Rattle.life_desk.proofs.RequestRuns.{answered_none, answered_append}
 use Rattle.life_desk.proofs.desk.answer_each.Goals as goal
 
 pub loop-request-init : goal.loop-request-init

@@ -1,4 +1,4 @@
-use Rattle.life_desk.proofs.Runs.{is_durable}
+use Rattle.life_desk.proofs.RequestRuns.{is_durable}
 use Rattle.life_desk.proofs.headline.law_of_durability.Goals as goal
 
 pub returns : goal.returns

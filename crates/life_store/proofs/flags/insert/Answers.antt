@@ -3,7 +3,7 @@ use Rattle.sqlite_value.specs.declared.value.Value.TheVariants.{Int}
 use Rattle.sqlite_value.specs.Value.{owned}
 use Rattle.sqlite.specs.State.{ExecutesInside}
 use Rattle.sqlite.specs.Held.{state}
-use Rattle.life_store.proofs.Statements.{add_flag_text}
+use Rattle.life_store.proofs.StatementTexts.{add_flag_text}
 use Rattle.life_store.specs.Stored.{flag_number}
 use Rattle.life_store.proofs.CensusLemmas.{given_flag, adds_flag, sound_after}
 use Rattle.life_store.proofs.StatementLemmas.{withstands_none, withstands_by}

@@ -4,7 +4,7 @@ use Rattle.sqlite_value.specs.Value.{owned}
 use Rattle.sqlite.specs.Held.{state}
 use Rattle.life_store.specs.ReadingState.{ShowsFlag}
 use Rattle.life_store.specs.Kept.{numbered}
-use Rattle.life_store.proofs.Statements.{flag_text}
+use Rattle.life_store.proofs.StatementTexts.{flag_text}
 use Rattle.life_store.proofs.Texts.{flag_is, flag_asks}
 use Rattle.life_store.proofs.KeepLemmas.{tells_held_at}
 use Rattle.life_store.proofs.StatementLemmas.{looks_by}

@@ -1,7 +1,7 @@
 use Rattle.std.proofs.Common.{◌≡◌, [], length}
 use Rattle.sqlite.specs.Held.{state}
 use Rattle.life_store.specs.ReadingState.{newest_rows}
-use Rattle.life_store.proofs.Statements.{newest_census_text}
+use Rattle.life_store.proofs.StatementTexts.{newest_census_text}
 use Rattle.life_store.specs.Stored.{census_cells}
 use Rattle.life_store.proofs.Texts.{newest_census_is}
 use Rattle.life_store.proofs.MigrationLemmas.{answers_inside}

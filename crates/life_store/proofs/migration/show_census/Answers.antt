@@ -3,7 +3,7 @@ use Rattle.sqlite_value.specs.declared.value.Value.TheVariants.{Int}
 use Rattle.sqlite.specs.Held.{state}
 use Rattle.life_store.specs.Kept.{numbered}
 use Rattle.life_store.specs.ReadingState.{ShowsCensus}
-use Rattle.life_store.proofs.Statements.{census_text}
+use Rattle.life_store.proofs.StatementTexts.{census_text}
 use Rattle.life_store.proofs.Texts.{census_is}
 use Rattle.life_store.proofs.MigrationLemmas.{answers_inside}
 use Rattle.life_store.proofs.CensusQueries.{census_shown_at}

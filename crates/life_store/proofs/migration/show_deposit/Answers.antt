@@ -3,7 +3,7 @@ use Rattle.sqlite_value.specs.declared.value.Value.TheVariants.{Int}
 use Rattle.sqlite.specs.Held.{state}
 use Rattle.life_store.specs.Kept.{numbered}
 use Rattle.life_store.specs.ReadingState.{ShowsDeposit}
-use Rattle.life_store.proofs.Statements.{deposit_text}
+use Rattle.life_store.proofs.StatementTexts.{deposit_text}
 use Rattle.life_store.proofs.Texts.{deposit_is}
 use Rattle.life_store.proofs.MigrationLemmas.{answers_inside}
 use Rattle.life_store.proofs.DepositQueries.{deposit_shown_at}

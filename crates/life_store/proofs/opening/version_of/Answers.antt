@@ -1,7 +1,7 @@
 use Rattle.std.proofs.Common.{rules, ◌≡◌, ◌∙◌, refl, false, subst}
 use Rattle.std.specs.Prelude.{IfOk}
 use Rattle.life_store.specs.OpeningState.{has_table, version_with, rows_of_version}
-use Rattle.life_store.proofs.Statements.{layout_name, flags_name}
+use Rattle.life_store.proofs.StatementTexts.{layout_name, flags_name}
 use Rattle.life_store.proofs.OpenLemmas.{layout_not, told_by_flags, found_version}
 use Rattle.life_store.proofs.opening.version_of.Goals as goal
 

@@ -2,7 +2,7 @@ use Rattle.std.proofs.Common.{◌≡◌, []}
 use Rattle.std.specs.Prelude.{◌↔◌}
 use Rattle.sqlite.specs.Held.{state}
 use Rattle.life_store.specs.OpeningState.{column_of}
-use Rattle.life_store.proofs.Statements.{version_text}
+use Rattle.life_store.proofs.StatementTexts.{version_text}
 use Rattle.life_store.proofs.Texts.{version_asks}
 use Rattle.life_store.proofs.CrashLemmas.{asks_nothing}
 use Rattle.life_store.proofs.KeepLemmas.{seen_same, query_tells, open_when_shown}

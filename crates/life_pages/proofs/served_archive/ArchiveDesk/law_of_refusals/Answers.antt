@@ -1,5 +1,5 @@
 use Rattle.life_desk.specs.Validation.{validated}
-use Rattle.life_desk.proofs.Runs.{one_unasked}
+use Rattle.life_desk.proofs.RequestRuns.{one_unasked}
 use Rattle.life_pages.specs.ServedArchive.{StoreAnswers}
 use Rattle.life_pages.proofs.FirmReplies.{unasked_firm}
 use Rattle.life_pages.proofs.served_archive.ArchiveDesk.law_of_refusals.Goals as goal

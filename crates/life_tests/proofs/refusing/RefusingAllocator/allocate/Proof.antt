@@ -38,7 +38,7 @@ use denote.Triple.Clauses.{Ended, Clauses}
 use denote.Triple.Statement.{Triple}
 use denote.Triple.Table.{cited}
 use denote.Triple.Walked.{Stays, stay_dropped, walk_of, ends_at, Goes-dropped}
-use Rattle.life_tests.proofs.Refusals.{Asks, at_asks, Asks-goes, Asks-gives}
+use Rattle.life_tests.proofs.RefusalLemmas.{Asks, at_asks, Asks-goes, Asks-gives}
 use Rattle.life_tests.proofs.refusing.is_refused.Symbol as asks_key
 use Rattle.life_tests.proofs.refusing.is_refused.Met as asks
 use Rattle.life_tests.specs.contracts.refusing.Refusing as refusing

@@ -20,27 +20,22 @@ layout_text = codes "CREATE TABLE layout (version INTEGER NOT NULL) STRICT"
 abbrev pub deposits_text : List ℕ
 deposits_text =
     codes
-    "CREATE TABLE deposits (id INTEGER PRIMARY KEY, member TEXT NOT NULL, token TEXT NOT NULL, rule TEXT NOT NULL,
-    population INTEGER NOT NULL CHECK (population >= 0), rle BLOB NOT NULL, UNIQUE (member, token)) STRICT"
+    "CREATE TABLE deposits (id INTEGER PRIMARY KEY, member TEXT NOT NULL, token TEXT NOT NULL, rule TEXT NOT NULL, population INTEGER NOT NULL CHECK (population >= 0), rle BLOB NOT NULL, UNIQUE (member, token)) STRICT"
 
 abbrev pub censuses_text : List ℕ
 censuses_text =
     codes
-    "CREATE TABLE censuses (id INTEGER PRIMARY KEY, member TEXT NOT NULL, token TEXT NOT NULL, deposit INTEGER NOT NULL
-    REFERENCES deposits (id), gens INTEGER NOT NULL, lim INTEGER NOT NULL, clusters INTEGER NOT NULL, unresolved INTEGER
-    NOT NULL, UNIQUE (member, token)) STRICT"
+    "CREATE TABLE censuses (id INTEGER PRIMARY KEY, member TEXT NOT NULL, token TEXT NOT NULL, deposit INTEGER NOT NULL REFERENCES deposits (id), gens INTEGER NOT NULL, lim INTEGER NOT NULL, clusters INTEGER NOT NULL, unresolved INTEGER NOT NULL, UNIQUE (member, token)) STRICT"
 
 abbrev pub census_rows_text : List ℕ
 census_rows_text =
     codes
-    "CREATE TABLE census_rows (census INTEGER NOT NULL REFERENCES censuses
-    (id), code TEXT NOT NULL, n INTEGER NOT NULL CHECK (n > 0), PRIMARY KEY (census, code)) STRICT"
+    "CREATE TABLE census_rows (census INTEGER NOT NULL REFERENCES censuses (id), code TEXT NOT NULL, n INTEGER NOT NULL CHECK (n > 0), PRIMARY KEY (census, code)) STRICT"
 
 abbrev pub census_flags_text : List ℕ
 census_flags_text =
     codes
-    "CREATE TABLE census_flags (census INTEGER PRIMARY KEY REFERENCES censuses (id), steady INTEGER NOT NULL CHECK
-    (steady IN (0, 1))) STRICT"
+    "CREATE TABLE census_flags (census INTEGER PRIMARY KEY REFERENCES censuses (id), steady INTEGER NOT NULL CHECK (steady IN (0, 1))) STRICT"
 
 abbrev pub add_version_text : List ℕ
 add_version_text = codes "INSERT INTO layout (version) VALUES (2)"
@@ -76,8 +71,7 @@ census_text =
 abbrev pub find_census_text : List ℕ
 find_census_text =
     codes
-    "SELECT id, member, token, deposit, gens, lim, clusters, unresolved FROM censuses WHERE member = ?1 AND token =
-        ?2 ORDER BY id"
+    "SELECT id, member, token, deposit, gens, lim, clusters, unresolved FROM censuses WHERE member = ?1 AND token = ?2 ORDER BY id"
 
 abbrev pub rows_text : List ℕ
 rows_text = codes "SELECT code, n FROM census_rows WHERE census = ?1 ORDER BY code"
@@ -85,14 +79,12 @@ rows_text = codes "SELECT code, n FROM census_rows WHERE census = ?1 ORDER BY co
 abbrev pub total_text : List ℕ
 total_text =
     codes
-    "SELECT sum(n) FROM census_rows JOIN censuses ON census_rows.census =
-        censuses.id JOIN deposits ON censuses.deposit = deposits.id WHERE rule = ?1 AND code = ?2"
+    "SELECT sum(n) FROM census_rows JOIN censuses ON census_rows.census = censuses.id JOIN deposits ON censuses.deposit = deposits.id WHERE rule = ?1 AND code = ?2"
 
 abbrev pub add_census_text : List ℕ
 add_census_text =
     codes
-    "INSERT INTO censuses (id, member, token, deposit, gens, lim, clusters, unresolved) VALUES
-    (?1, ?2, ?3, ?4, ?5, ?6, ?7, ?8)"
+    "INSERT INTO censuses (id, member, token, deposit, gens, lim, clusters, unresolved) VALUES (?1, ?2, ?3, ?4, ?5, ?6, ?7, ?8)"
 
 abbrev pub add_row_text : List ℕ
 add_row_text = codes "INSERT INTO census_rows (census, code, n) VALUES (?1, ?2, ?3)"

@@ -19,7 +19,7 @@ loop-taken-preserved g c = record {
       c.loop-taken.taken c.in-Ok.k c.loop-taken.invariant.told c.in-Ok.ensures.bytes.0
       (length-take-le c.in-Ok.k c.take.new.space c.in-Ok.ensures.within) c.in-Ok-take_all.ensures;
   sound = sound_more c.loop-taken.file_reader c.take_all.new.self _ c.loop-taken.invariant.sound
-  c.in-Ok-take_all.ensures;
+      c.in-Ok-take_all.ensures;
   few =
       consumes_on _ _ _ c.loop-taken.taken c.in-Ok.k (c.loop-taken.taken + c.in-Ok.k)
       (take c.in-Ok.k c.take.new.space) c.loop-taken.invariant.few c.in-Ok.ensures.bytes.0

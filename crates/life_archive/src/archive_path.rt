@@ -26,7 +26,7 @@ fn opening_stop(fault: OpenFault) -> ArchiveStop
     }
 }
 
-/// What comes of the files of a path: they were closed; or a close or an opening was refused, and they were let go; or they were never opened.
+/// The files of a path after a job: closed; given up after a refused close or opening; or never opened.
 pub type PathFiles<T> = Option<Result<Files<FileFrom<T>>, Files<FileFrom<T>>>>;
 
 /// The files of a refused opening.
@@ -75,7 +75,7 @@ pub fn deposit_path<T: Start, I: Inlet, O: Outlet>(
     output: &mut O,
 ) -> (Result<(), ArchiveStop>, PathFiles<T>)
     // Files that were closed mean the archive that they were opened as, after the one deposit, or as it was. Why the opening was refused is said too.
-    // Before the archive is open nothing is taken.
+    // No input is read before the archive is open.
     ensures deposits { DepositsAt ⟦<FileFrom<T> as Disk>⟧ (image_at T.Start) capacity member.now token.now input.old input.new (I.to_come input.old) (O.already output.old) (O.already output.new) result.0 result.1 }
     ensures takes { TakesFile (I.to_come input.old) (I.to_come input.new) (I.failures input.old) (I.failures input.new) (I.ends input.old) (I.ends input.new) (I.last_take input.new) (by_streams result.0) }
     // Nothing is put before a refusal or after a put that failed.
@@ -108,7 +108,7 @@ fn serve_opened<D: Disk + Drop, C: Connections>(
     }
 }
 
-/// Closes an archive that nobody asked.
+/// Closes an archive that got no request.
 fn close_unasked<D: Disk + Drop>(archive: Archive<FileStore<D>>) -> Result<Files<D>, Files<D>>
     ensures { ClosesUnasked D.Disk archive result }
 {

@@ -20,7 +20,7 @@ pub enum ArchiveStop {
 }
 
 impl ArchiveStop {
-    /// The line for standard error, without its line end. It is empty if nothing is printed.
+    /// The line for standard error, without its line end; empty to print no line.
     pub fn line(&self) -> &'static str
         ensures { result.now ≡ line_of self.now }
     {

@@ -84,7 +84,7 @@ fn put_decimal<O: Outlet>(output: &mut O, n: u64) -> Result<(), Failed>
     put_all(output, Buffer::new().format(n).as_bytes())
 }
 
-/// Writes the line of a deposit. It allocates nothing.
+/// Writes the line of a deposit, without an allocation.
 fn put_number<O: Outlet>(output: &mut O, id: u64) -> Result<(), Failed>
     ensures all { OnOk result (Appends (O.already output.old) (O.already output.new) (deposit_line id)) }
     ensures some { OnErr result (AppendsSome (O.already output.old) (O.already output.new) (deposit_line id)) }

@@ -75,7 +75,7 @@ fn reopenable<D: Disk>(files: Files<D>) -> Result<Files<D>, Files<D>>
     Ok(files)
 }
 
-/// Serves this many connections, and counts the deposits after them. It stands alone, so that `serve_opened` passes on the store's traits once.
+/// Serves this many connections, and counts the deposits after them. It is a separate function so that `serve_opened` proves the store's traits once.
 fn serve_and_count<S: Alter, C: Connections>(
     alloc: Global,
     archive: &mut Archive<S>,
@@ -125,7 +125,7 @@ pub fn serve_files<D: Disk + Drop, C: Connections>(
     // Files in an Ok may be opened again: each sync of them went well.
     ensures usable { IfOk result (λ left. IfOk left (AreUsable D.Disk)) }
     ensures session { IfOk result (IsSession D.Disk files capacity count (C.traffic connections.old) (C.traffic connections.new)) }
-    // If the opening was refused nobody was served; and the refusals and the files are those of `Archive::open_files`. What a crash during
+    // If the opening was refused, no client was served; the refusals and the files are those of `Archive::open_files`. What a crash during
     // an opening leaves is not said.
     ensures unserved { OnErr result (connections.new ≡ connections.old) }
     ensures bad { IfErr result (λ e. (e.0 ≡ OpenFault.BadCapacity) ↔ (is_capacity capacity ≡ false)) }

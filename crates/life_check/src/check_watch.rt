@@ -8,7 +8,7 @@ pub trait CheckWatch {
     /// Called when this many censuses are read, with their rows and their flags.
     fn censuses_read(&mut self, count: u64);
 
-    /// Called once nothing more is read.
+    /// Called once, after the last row.
     fn ended(&mut self);
 }
 

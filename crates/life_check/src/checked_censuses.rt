@@ -370,7 +370,7 @@ fn begin_all<S: Alter>(store: &mut S, alloc: Global) -> Result<(), Unavailable>
     begin(store, alloc, 2, CENSUS_FLAGS)
 }
 
-/// Reads all rows of the three tables. A quick check counts nothing.
+/// Reads all rows of the three tables. A quick check skips the counting.
 pub(crate) fn censuses<S: Alter, W: CheckWatch>(
     store: &mut S,
     alloc: Global,

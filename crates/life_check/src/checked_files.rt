@@ -83,10 +83,10 @@ fn check_opened<D: Disk + Drop, W: CheckWatch>(
     (checked, further, store.close())
 }
 
-/// What comes of the files of a path: they were checked; or the opening was refused, and they were let go; or they were never opened.
+/// The files of a path after a check: checked; given up after a refused opening; or never opened.
 pub type CheckedFiles<T> = Option<Result<Files<FileFrom<T>>, Files<FileFrom<T>>>>;
 
-/// Checks the file of the path, with the log beside it; returns the result, the errors after the first, and the files. They hold the database
+/// Checks the file of the path, with its log; returns the result, the errors after the first, and the files. They hold the database
 /// that they held, whosever it is, even if the check gave no result. A log that was not there before is removed again. `start` says what the
 /// files are taken to hold, as for `Archive::open_path`. A quick check counts no census.
 pub fn check_path<T: Start, W: CheckWatch>(

@@ -1,4 +1,4 @@
-//! The check of a whole archive.
+//! The check of an archive: its tables, then every row.
 
 ghost use Rattle.std.specs.Prelude.{◌≡◌, ◌≢◌, ◌↔◌, ◌∷◌, [], ℕ, pos, false, Some, IfOk, OnOk, IsTrue};
 ghost use Rattle.sqlite_value.specs.declared.value.Value.TheVariants.{Int};
@@ -159,7 +159,7 @@ pub fn law_of_unique_tokens()
     ensures censuses { (A : Model) (i : ℕ) (c : Census) → HasUniqueTokens A → numbered A.censuses i ≡ Some c → census_by c.member c.token A.censuses ≡ Some (i, c) }
 {}
 
-/// Checks the tables and every row of an archive, and returns its store. It changes nothing. Sound tables are an archive, whoever wrote
+/// Checks the tables and every row of an archive, and returns its store, unchanged. Sound tables are an archive, whoever wrote
 /// them. A quick check counts no census, and takes about as long as one reading of the deposits.
 pub fn check<S: Alter + Drop, W: CheckWatch>(
     archive: Archive<S>,

@@ -227,7 +227,7 @@ fn add_rows_left<S: Alter>(
     add(errors, Some(Wrong::Census(next_number)))
 }
 
-/// Adds the errors of the censuses with numbers above `after`. A quick check counts nothing.
+/// Adds the errors of the censuses with numbers above `after`. A quick check skips the counting.
 fn add_censuses<S: Alter, W: CheckWatch>(
     store: &mut S,
     alloc: Global,

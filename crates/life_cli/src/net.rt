@@ -63,7 +63,7 @@ fn serve_next<S: Alter>(
         &mut FromRead::new(&peer),
         &mut FromWrite::new(&peer),
     );
-    // If the peer has gone, the error concerns nobody.
+    // An error here only means that the client has gone.
     let _ended = peer.end();
     served
 }

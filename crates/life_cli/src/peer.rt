@@ -50,7 +50,7 @@ impl<'a> Peer<'a> {
         }
     }
 
-    /// Tells the peer that nothing more comes. If unread bytes may be left, some of them are read and dropped: closing a socket with unread
+    /// Tells the client that the reply has ended. If unread bytes may be left, some of them are read and dropped: closing a socket with unread
     /// bytes resets the connection, and the last reply may be lost. It does not wait again for a peer that was silent or has ended.
     pub fn end(&self) -> io::Result<()> {
         self.stream.shutdown(Shutdown::Write)?;
@@ -107,7 +107,7 @@ impl Write for &Peer<'_> {
         let mut writer = self.stream;
         let k = writer.write(buf)?;
         if k == buf.len() {
-            // The whole reply is written, so the next message is due.
+            // The reply is complete, so the next message is due.
             self.message.set(None);
             self.reply.set(Duration::from_secs(REPLY));
         } else {

@@ -1,4 +1,4 @@
-//! Why the file of an archive could not be used. A refused opening does not tell, so the file is opened once more; nothing of this is proved.
+//! Why the file of an archive could not be used. A refused opening has no reason, so the file is opened once more. This is tested, not proved.
 
 use crate::archives::CAPACITY;
 use life_store::Archive;

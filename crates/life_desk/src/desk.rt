@@ -226,7 +226,7 @@ fn name_kind<S: Alter>(
     }
 }
 
-/// Counts a census of a deposit that is there, and adds it.
+/// Counts a census of a deposit that exists, and adds it.
 fn add_counted<S: Alter>(
     archive: &mut Archive<S>,
     alloc: Global,
@@ -249,7 +249,7 @@ fn add_counted<S: Alter>(
     Ok(Reply::Counted(add_census(archive, census, &tally, steady)?))
 }
 
-/// Answers a census whose deposit is there and whose token is new.
+/// Answers a census whose deposit exists and whose token is new.
 fn count_new<S: Alter>(
     archive: &mut Archive<S>,
     alloc: Global,
@@ -486,7 +486,7 @@ pub fn answer<S: Alter>(archive: &mut Archive<S>, alloc: Global, request: Reques
     ensures answered { Answered S.Store archive.old archive.new (request ∷ []) (result ∷ []) }
     // If the database is not healthy, no reply says anything about what is stored, unless its disk has lied.
     ensures healthy { IsHealthyIfClean S.Store archive.new ⊎ IsStateless request result }
-    // If the reply shows what is stored, nothing has changed, and it might have been unavailable instead.
+    // A reply that shows stored contents changed no archive, and might have been `unavailable` instead.
     ensures may_be_unavailable { is_shown result ≡ true → Answered S.Store archive.old archive.new (request ∷ []) (replies.Refused refusals.Unavailable ∷ []) }
     // A crash during the call leaves the archive as it was before the request or after it.
     ensures crash { IsCrashSafe S.Store archive.old archive.new (request ∷ []) (result ∷ []) }

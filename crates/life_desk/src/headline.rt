@@ -10,7 +10,7 @@ use sqlite::Alter;
 
 /// What the replies of every run say about sets of live cells. Deposits and censuses are never lost or changed. What is shown is what was
 /// deposited; generation n is the rule applied n times; kinds and codes are those of the deposit's pattern. Two coded patterns of one rule
-/// share a code exactly if a translation, rotation or reflection takes one to a phase of the other. A census counts every cluster once, under
+/// share a code exactly when a translation, rotation or reflection takes one to a phase of the other. A census counts every cluster once, under
 /// its code or as unresolved, and a total adds up these counts. A law: calling it does nothing.
 pub fn law_of_the_archive()
     ensures { HeadlineHolds }

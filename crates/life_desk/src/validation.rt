@@ -149,7 +149,7 @@ pub fn check_total(rule: &[u8], limit: u64) -> Result<(), Refusal>
     check_total_fields(rule, limit)
 }
 
-/// Validates the fields of a request, in the order member, token, limits, rule. It allocates nothing.
+/// Validates the fields of a request, in the order member, token, limits, rule, without an allocation.
 pub(crate) fn validate(request: &Request) -> Result<(), Refusal>
     ensures value { result ≡ checked (fault_in request.now) }
     ensures within { OnOk result (IsGood request.now) }

@@ -35,7 +35,7 @@ pub struct HaulQuestion<'a> {
     pub count: u64,
 }
 
-/// After this many soups, the remembered shapes are dropped. A haul meets ever new shapes without a code, so storing all of them would take
+/// After this many soups, the remembered shapes are dropped. A haul keeps meeting new shapes without a code, so storing all of them would take
 /// memory proportional to the number of soups. CodeQuestion the usual shapes again takes a few hundredths of the time for this many soups.
 const SOUPS_REMEMBERED: u64 = 4_096;
 

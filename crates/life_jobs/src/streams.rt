@@ -22,7 +22,7 @@ pub fn read_input<I: Inlet>(alloc: Global, input: &mut I) -> Result<Record, Stop
     }
 }
 
-/// Writes a whole text.
+/// Writes a text, in as many puts as the output needs.
 pub fn put_text<O: Outlet>(output: &mut O, text: &[u8]) -> Result<(), Stop>
     ensures fails { IfErr result (λ stop. stop ≡ Stop.Unwritable) }
     ensures puts { PutsText (O.already output.old) (O.already output.new) text.now result }

@@ -35,7 +35,7 @@ impl ReplyBuffers {
     }
 }
 
-/// Writes the reply to a request.
+/// Asks the archive, and puts the reply into the buffers. Room for acknowledgements was allocated before.
 fn answer_request<D: Desk>(
     alloc: Global,
     desk: &mut D,

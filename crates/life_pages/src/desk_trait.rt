@@ -19,7 +19,7 @@ pub(crate) trait Desk {
     /// Answers a request.
     fn answer(&mut self, alloc: Global, request: Request) -> Reply
         ensures answered { answers self.old request result self.new }
-        // What is shown may be withheld: nothing has changed, and that it is unavailable is a reply too.
+        // A read may be answered `unavailable` instead, since it changes no archive.
         ensures may_be_unavailable { is_shown result ≡ true → answers self.old request (replies.Refused refusals.Unavailable) self.new };
 
     /// A request may be refused unasked: for its own fields or, if these are valid, as unavailable. A law: calling it does

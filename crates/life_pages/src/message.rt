@@ -11,7 +11,7 @@ pub(crate) const HEAD_LIMIT: usize = 8192;
 /// What the held bytes begin with.
 #[derive(Drop)]
 pub(crate) enum Next<'b> {
-    /// More bytes are needed: no message is whole before this many are held, if that is known.
+    /// More bytes are needed: no message ends before this many, if that is known.
     More(usize),
     /// No good message, whatever follows.
     Bad,

@@ -234,7 +234,7 @@ fn write_long(alloc: Global, out: &mut Vec<u8>, reply: &Reply) -> Result<(), All
     }
 }
 
-/// Writes a reply. A short one allocates nothing; a long one may be replaced by the reply for out of
+/// Writes a reply. A short one needs no allocation; a long one may be replaced by the reply for out of
 /// memory.
 pub(crate) fn write_reply(alloc: Global, out: &mut Vec<u8>, body: &mut Vec<u8>, reply: &Reply)
     requires room { REPLY_ROOM ≤ vec_capacity out.old }

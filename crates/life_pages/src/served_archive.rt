@@ -44,7 +44,7 @@ pub fn serve<S: Alter, I: Inlet, O: Outlet>(
     // By the result: over which messages the archive went through a run, and how much of the run's bytes was put.
     ensures served { IsServed (AnswersMessage RequestStep) (λ P. ByArchive S.Store P archive.old archive.new) I.Inlet O.Outlet input.old input.new output.old output.new result }
     // Of one list of messages and one of their replies' bytes: the store answered the first messages of the stream, each archive that it represented went through a
-    // run over them, a request that is refused for its own words is answered by that refusal, whatever the database does, and a crash during the call leaves
+    // run over them, a request with an invalid field gets that refusal, whatever the database does, and a crash during the call leaves
     // the archive after a prefix of them or one more; and a prefix of the bytes was put.
     ensures steps { IsAnswered S.Store (AreFirstOfStream (I.to_come input.old)) (AppendsSome (O.already output.old) (O.already output.new)) archive.old archive.new }
     // On Ok they are all messages, and all bytes were put.
@@ -52,7 +52,7 @@ pub fn serve<S: Alter, I: Inlet, O: Outlet>(
     // What was answered says of sets of live cells what it should, of all messages or, whatever the answer, of the first of them.
     ensures headline { OnOk result (ByArchive S.Store (ServesTheHeadline (AreAllOf (I.to_come input.old)) (Appends (O.already output.old) (O.already output.new))) archive.old archive.new) }
     ensures headlines { ByArchive S.Store (ServesTheHeadline (AreFirstOfStream (I.to_come input.old)) (AppendsSome (O.already output.old) (O.already output.new))) archive.old archive.new }
-    // Whatever the database does: a request that is refused for its own words (member, token, limits, rule) is answered by that refusal, and
+    // Whatever the database does: a request with an invalid field (member, token, limits, rule) gets that refusal, and
     // unavailable never comes in its place; and each other message of the first of them by the bytes of its refusal or of a reply.
     ensures own_refusals { RepliesCutShort (AnswersMessage AnswersFirmly) (I.to_come input.old) tt tt (O.already output.old) (O.already output.new) }
     // A crash during the call leaves the archive after a prefix of the messages that were sent, or after the one that follows as well,

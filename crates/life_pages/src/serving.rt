@@ -175,7 +175,7 @@ fn take_into<I: Inlet>(input: &mut I, space: &mut [u8], held: &mut Vec<u8>) -> R
     }
 }
 
-/// Takes more bytes after those that are held, which hold no whole message.
+/// Reads more bytes: those that are held have no complete message.
 fn take_more<I: Inlet>(input: &mut I, held: &mut Vec<u8>) -> Result<usize, Failed>
     requires none { HasNone held.old.items }
     requires space { vec_len held.old < HELD_LIMIT }
@@ -282,7 +282,7 @@ fn finish<O: Outlet, D: Desk>(desk: &D, output: &mut O, held: &[u8]) -> Result<(
 struct Ready {
     routes: Router<(Method, Template)>,
     held: Vec<u8>,
-    /// No message is whole before this many bytes are held.
+    /// No message ends before this many bytes.
     wanted: usize,
     buffers: ReplyBuffers,
 }

@@ -1,4 +1,4 @@
-//! Texts with numbers.
+//! Decimal numbers in the texts of SVG documents.
 ghost use Rattle.std.specs.Prelude.{◌≡◌, ◌++◌, OnOk};
 ghost use Rattle.life_pictures.specs.Numbers.{with_number};
 

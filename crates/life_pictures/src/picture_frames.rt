@@ -17,7 +17,7 @@ use life_core::{Cell, Fault, GENERATION_LIMIT, PackedRows, Pattern, Plane, Rule}
 use life_rle::{Record, Text};
 use std::alloc::Allocator;
 
-/// The most frames of an animation: the whole document is in memory before any of it is written.
+/// The most frames of an animation: the complete document is in memory before any of it is written.
 pub const MOST_FRAMES: u32 = 240;
 
 /// The generations after a pattern, this many: a near pattern always fits into rows of packed words. A run takes twelve bytes, and its rectangle in

@@ -7,7 +7,7 @@ use life_jobs::{Stop, put_text};
 use life_rle::Outlet;
 use life_words::explanation;
 
-/// Writes the explanation of the refusals and faults with this name; nothing if there are none.
+/// Writes the explanation of the refusals and faults with this name, if there are any.
 pub fn run_explain<O: Outlet>(name: &str, output: &mut O) -> Result<(), Stop>
     ensures fails { IfErr result (λ stop. stop ≡ Stop.Unwritable) }
     ensures puts { PutsText (O.already output.old) (O.already output.new) (explanation_text name.now) result }

@@ -14,7 +14,7 @@ use life_words::Job;
 use std::alloc::Global;
 
 /// The jobs over an archive in a file, which each program does in its own way. Each returns the line for standard error if it stops, without
-/// its line end; the line is empty if nothing is printed.
+/// its line end; the line is empty to print none.
 pub trait ArchiveJobs: Drop {
     // What a deposit does: a relation of its file, member and token, its streams before and after, and the line.
     ghost deposits: { (I O : Type 0) → inlet.Ghosts I → outlet.Ghosts O → List ℕ → List ℕ → List ℕ → I → I → O → O → Option (List ℕ) → Type 0 };

@@ -10,7 +10,7 @@ pub struct ProgressLine<'a> {
     rt: &'a HostRuntime,
     /// When the work began, if the line is shown.
     began: Option<Instant>,
-    /// How many whole seconds had passed when the line was last written; 0 if there is no line.
+    /// How many full seconds had passed when the line was last written; 0 if there is no line.
     shown: u64,
 }
 
@@ -29,7 +29,7 @@ impl<'a> ProgressLine<'a> {
         }
     }
 
-    /// How many whole seconds have passed, if it is time to write the line.
+    /// How many full seconds have passed, if it is time to write the line.
     pub fn due(&self) -> Option<u64> {
         let began = self.began?;
         let seconds = began.elapsed(self.rt).ok()?.as_secs();

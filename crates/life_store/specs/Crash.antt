@@ -1,13 +1,14 @@
 -- What a crash leaves of a store of `sqlite`: its `recovers` is what an opening after a crash at this moment may find.
--- A crash during a call is read off the call's clause: the call that the crash cut off went as the same call does over
--- a disk that fails from that moment on. That call returns, and the clause speaks of it as of every call ("The crash
--- argument" of the kit's `sqlite_wal`).
+-- The clause of a call also covers a crash during the call: the interrupted call did to the disk what the same call
+-- does
+-- to a disk that fails from that moment on, and the clause speaks about that call ("The crash argument" of the kit's
+-- `sqlite_wal`).
 use Rattle.std.specs.Prelude.{◌⊎◌}
 use Rattle.sqlite_trees.specs.declared.store.Store.{Ghosts}
 use Rattle.sqlite_trees.specs.Tree.{Trees}
 use Rattle.sqlite_trees.specs.View.{IsClean}
 
--- nothing
+-- a call that adds no possible result of a crash
 abbrev pub NothingNew : Trees → Type 0
 NothingNew db = ⊥
 

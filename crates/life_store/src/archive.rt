@@ -75,7 +75,7 @@ impl<S: Alter> Archive<S> {
         self.conn.schema()
     }
 
-    /// While an archive is healthy, a crash leaves what it holds and nothing else: what was answered is committed. A law: calling
+    /// While an archive is healthy, a crash leaves exactly its contents: every answered change is committed. A law: calling
     /// it does nothing.
     pub fn law_of_crashes(&self)
         ensures { IsTrue self.now.tables.is_healthy → (k : Kept) → Holds self.now.tables k → (db : Trees) → S.Store.recovers self.now.store db → TreesHold db k }
@@ -119,7 +119,7 @@ impl<S: Alter> Archive<S> {
         ensures inside { IfOk result (λ o. IfSome o (λ d. IsInside 1024 d.content.cells)) }
     {
         let Ok(rowid) = i64::try_from(id) else {
-            // No row has such a number. The store is asked anyway, since a closed one answers nothing.
+            // No row has such a number. The store is queried anyway: a closed one is unavailable.
             let _count = self.count_deposits()?;
             return Ok(None);
         };
@@ -139,7 +139,7 @@ impl<S: Alter> Archive<S> {
         ensures value { ForAllHeld self.old.tables self.new.tables (λ k. IfOk result (λ file. option_map (λ v. v.items) file ≡ option_map (λ d. text d.content) (numbered k.deposits id))) }
     {
         let Ok(rowid) = i64::try_from(id) else {
-            // No row has such a number. The store is asked anyway, since a closed one answers nothing.
+            // No row has such a number. The store is queried anyway: a closed one is unavailable.
             let _count = self.count_deposits()?;
             return Ok(None);
         };
@@ -192,7 +192,7 @@ impl<S: Alter> Archive<S> {
         ensures value { ForAllHeld self.old.tables self.new.tables (λ k. IfOk result (λ lines. lines ≡ listed_after id k.deposits)) }
     {
         let Ok(rowid) = i64::try_from(id) else {
-            // No row has such a number. The store is asked anyway, since a closed one answers nothing.
+            // No row has such a number. The store is queried anyway: a closed one is unavailable.
             let _count = self.count_deposits()?;
             return Ok(Listing::of(Vec::new(alloc)));
         };
@@ -240,7 +240,7 @@ impl<S: Alter> Archive<S> {
         ensures value { ForAllHeld self.old.tables self.new.tables (λ k. IfOk result (λ c. c ≡ option_map kept_census (numbered k.censuses id))) }
     {
         let Ok(rowid) = i64::try_from(id) else {
-            // No row has such a number. The store is asked anyway, since a closed one answers nothing.
+            // No row has such a number. The store is queried anyway: a closed one is unavailable.
             let _count = self.count_censuses()?;
             return Ok(None);
         };
@@ -351,7 +351,7 @@ impl<S: Alter> Archive<S> {
         ensures value { ForAllHeld self.old.tables self.new.tables (λ k. IfOk result (λ b. b ≡ option_map (λ t. t.steady) (numbered k.censuses id))) }
     {
         let Ok(rowid) = i64::try_from(id) else {
-            // No row has such a number. The store is asked anyway, since a closed one answers nothing.
+            // No row has such a number. The store is queried anyway: a closed one is unavailable.
             let _count = self.count_censuses()?;
             return Ok(None);
         };

@@ -1,4 +1,4 @@
-//! The log beside a database file, by its name. The system's files have no clauses here.
+//! The log of a database file, by its name. Calls of the file system have no clauses here.
 
 use std::{fs, io};
 

@@ -115,7 +115,7 @@ fn is_version_1(rows: &[Row]) -> bool
     }
 }
 
-/// Whether the rows say just version 2.
+/// Whether the table `layout` has one row, with version 2.
 fn is_version_2(rows: &[Row]) -> bool
     ensures { IsTrue result ↔ (rows.now ≡ version_shown 2) }
 {
@@ -235,7 +235,7 @@ impl Archive<MemStore> {
     }
 }
 
-/// The connection of the archive; where a transaction is open, its store alone.
+/// The connection of the archive; if a transaction is open, only its store.
 fn idle_connection<S: Alter + Drop>(archive: Archive<S>) -> Result<Connection<S>, S>
     ensures ok { IfOk result (λ conn. IsSettled (state S.Store conn) archive.tables) }
     ensures store { IfOk result (λ conn. conn.store ≡ archive.store) }
@@ -285,7 +285,7 @@ fn close<D: Disk + Drop>(conn: Connection<FileStore<D>>) -> Result<Files<D>, Fil
 }
 
 /// The connection as an archive, once its tables were seen to; else the fault, with the connection where the
-/// database is not an archive's, and with its store alone in other cases.
+/// database is not an archive's, and with only its store in other cases.
 fn prepared_archive<S: Alter + Drop>(
     alloc: Global,
     conn: Connection<S>,
@@ -445,7 +445,7 @@ fn remove_unmade(rt: &HostRuntime, unmade: Option<String>) {
 }
 
 impl<T: Start> Archive<FileStore<FileFrom<T>>> {
-    /// The archive in the file of the path, and in the log beside it; where they hold none of its tables, a new one. An
+    /// The archive in the file of the path and its log; a new one if they have none of its tables. An
     /// archive of schema version 1 is migrated, as `open_files` does it. `start` says what the two files are taken to hold:
     /// `sqlite::Unknown` says nothing of files that are not empty. A refused opening gives the files back, if they were
     /// opened; and if it made a log that has no commit, beside a file that was there, it removes it.

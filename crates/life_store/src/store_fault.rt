@@ -8,7 +8,7 @@ use sqlite::Error;
 use std::alloc::AllocError;
 
 /// The store or an allocation failed, or a row is one that no archive writes. If the database is healthy after the
-/// call, what was stored is stored and nothing else is.
+/// call, the stored contents are the same.
 #[derive(Clone, Copy, Debug, PartialEq, Eq)]
 pub struct Unavailable;
 

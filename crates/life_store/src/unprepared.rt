@@ -28,7 +28,7 @@ impl MadeLog {
     }
 }
 
-/// Whether there is nothing to look at: no file, or an empty one without a log, into which an opening would write a header.
+/// Whether there are no contents to look at: no file, or an empty one without a log, into which an opening would write a header.
 fn has_nothing(rt: &HostRuntime, path: &str) -> bool {
     match fs::metadata(rt, path) {
         Ok(found) => found.len() == 0 && missing_log(rt, path).is_some(),
@@ -37,7 +37,7 @@ fn has_nothing(rt: &HostRuntime, path: &str) -> bool {
 }
 
 impl<T: Start> Archive<FileStore<FileFrom<T>>> {
-    /// What is in the file of the path, and in the log beside it, whether it is an archive or not: its tables stay as they are. `start` is
+    /// The contents of the file of the path and its log, whether it is an archive or not: its tables stay as they are. `start` is
     /// as for `open_path`. A file that does not exist, or is empty and has no log, is refused. A refused opening gives the files
     /// back, if they were opened.
     pub fn open_unprepared(

@@ -23,7 +23,7 @@ pub fn named_command<'a>(alloc: Global, name: &'a str, about: &'a str, help: &'a
 /// The version of the programs, which `--version` prints.
 pub const VERSION: &str = "1.1.0";
 
-/// Like [`named_command`], for a whole program, which also has a version.
+/// Like [`named_command`], for a program, which also has a version.
 pub fn program_command<'a>(
     alloc: Global,
     name: &'a str,

@@ -278,6 +278,27 @@ def test_files_of_dpkg(folder: str) -> None:
     same("files of dpkg", [name for name in os.listdir(room) if "dpkg" in name], [])
 
 
+@pytest.mark.parametrize(
+    "name, text, why",
+    [
+        ("earlier", "{% if TLS %}\n@TLS?@    listen 443;\n{% endif %}\n", "is a template of an earlier version"),
+        ("unknown", "listen {{ LISTENS }};\n", "'LISTENS' is undefined"),
+        ("broken", "{% if TLS %}\n", "Unexpected end of template"),
+    ],
+)
+def test_wrong_templates(folder: str, name: str, text: str, why: str) -> None:
+    """A template of another version, which a killed upgrade leaves, or one that can't be filled is refused, and no file
+    is written."""
+    shutil.copytree(os.path.join(TOP, "deploy"), copy := os.path.join(folder, f"with-{name}"))
+    write(os.path.join(copy, "templates", "gateway", name), text)
+    room = os.path.join(folder, f"of-{name}")
+    words = [os.path.join(copy, "configure"), room, "TLS=yes"]
+    done = subprocess.run(words, capture_output=True, text=True, timeout=60, check=False)
+    check(f"{name}: {done.stderr}", done.returncode == 1 and done.stderr.startswith(f"configure: {name}"))
+    check(f"{name}: it is said why", why in done.stderr)
+    check(f"{name}: nothing is written", not os.path.exists(room))
+
+
 def values(unit: str, key: str) -> list[str]:
     with open(unit, encoding="utf-8") as file:
         return [line.partition("=")[2].strip() for line in file if line.startswith(key + "=")]

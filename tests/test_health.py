@@ -278,6 +278,19 @@ def test_nearly_full(folder: str, table: str, values: str) -> None:
         same("nine tenths", place.age(), (1, wanted))
 
 
+@pytest.mark.parametrize("memory, good", [("293M", False), ("1K", False), ("294M", True), ("1G", True), ("1T", True)])
+def test_too_little_memory(folder: str, memory: str, good: bool) -> None:
+    """An archive that LIFE_MEMORY is too little to open is a failure, before the next start is: a million deposits take
+    280 MB, and a tenth more is wanted, 308,000,000 bytes."""
+    place = Place(os.path.join(folder, f"memory-{memory}"))
+    with contextlib.closing(new_archive(place.copied())) as database:
+        database.execute("INSERT INTO deposits VALUES (1000000, 'ann', 't1', 'B3/S23', 5, x'')")
+        database.commit()
+    words = ["--memory", memory, "--root", place.root, place.archive, place.copies, "2h"]
+    said = f"LIFE_MEMORY={memory} is too little to open {place.archive}: 1,000,000 deposits take 294M\n"
+    same(f"with {memory}", script("life-age", *words)[2].endswith(f"; {said}"), not good)
+
+
 def test_certificate(folder: str) -> None:
     """A certificate that expires within two weeks, or can't be read, is a failure. In a chain the server's is first."""
     if not shutil.which("openssl"):

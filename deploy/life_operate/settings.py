@@ -140,6 +140,11 @@ def seconds(value: str) -> float:
     return int(number) * SECONDS[unit]
 
 
+def mebibytes(value: str) -> float:
+    """An amount of memory, as systemd reads it."""
+    return int(value[:-1]) * 1024.0 ** ("KMGT".index(value[-1]) - 1)
+
+
 def is_calendar(value: str) -> bool:
     """Whether systemd accepts these times. Without its tool every text is accepted."""
     if not shutil.which("systemd-analyze"):

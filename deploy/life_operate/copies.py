@@ -201,10 +201,14 @@ def write_metrics(folder: str, copy: str, found: Contents, signals: Signals) -> 
     with contextlib.suppress(FileNotFoundError):
         os.remove(path + ".new")
     with signals.held_back():
-        with open(path + ".new", "x", encoding="utf-8") as file:
-            os.fchmod(file.fileno(), 0o644)
-            file.write(text)
-        os.replace(path + ".new", path)
+        try:
+            with open(path + ".new", "x", encoding="utf-8") as file:
+                os.fchmod(file.fileno(), 0o644)
+                file.write(text)
+            os.replace(path + ".new", path)
+        finally:
+            with contextlib.suppress(FileNotFoundError):
+                os.remove(path + ".new")
     signals.check()
 
 
@@ -225,11 +229,15 @@ def club_copy(settings: dict[str, str], signals: Signals) -> str:
             copy,
             [int(settings[name]) for name in ("KEEP_QUARTERS", "KEEP_DAYS", "KEEP_MONTHS")],
         )
+    faults = [fault for _, faults in found_before for fault in faults]
     if settings["METRICS_FOLDER"]:
-        write_metrics(settings["METRICS_FOLDER"], copy, found, signals)
+        try:
+            write_metrics(settings["METRICS_FOLDER"], copy, found, signals)
+        except OSError as fault:
+            faults.append(line_of(fault))
     if settings["SECOND_PLACE"]:
         send(copy, settings["SECOND_PLACE"])
-    if faults := [fault for _, faults in found_before for fault in faults]:
+    if faults:
         raise Refused(f"{copy} is good with {found.text()}, but {faults[0]}")
     return "\n".join(
         [

@@ -380,6 +380,12 @@ def test_stopped_watch(folder: str) -> None:
     same("a signal that ends the watch", values(unit, "SuccessExitStatus"), ["SIGTERM"])
 
 
+def test_endless_index(folder: str) -> None:
+    """An index that takes too long, as if it waited for somebody, is a failure, and so an alarm."""
+    unit = os.path.join(configured(folder), "life-index.service")
+    same("its end", (values(unit, "TimeoutStartSec"), len(values(unit, "OnFailure"))), (["30min"], 1))
+
+
 def test_certificate_checked(folder: str) -> None:
     """Every ten minutes the certificate is checked, if there is TLS, and the folders to which nginx writes, by root."""
     folders = "+/usr/lib/life/life-age --writer www-data /var/cache/life/cache /var/lib/nginx/body /var/lib/nginx/proxy"

@@ -521,6 +521,20 @@ def test_members(tmp_path: Path, lines: str, said: str) -> None:
     check(f"what is said: {others}", len(others) == bool(said) and all(said in line for line in others))
 
 
+def test_old_names(folder: str) -> None:
+    """Settings under the names of release 1.1.0 are those under the new ones, and a line says so."""
+    root = Root(os.path.join(folder, "old-names"))
+    path = root.path("etc/life/settings")
+    write(path, "DEAR_READS=7r/s\nDEAR_READS_AT_ONCE=33\nDEAR_CONNECTIONS=9\n")
+    status, out, err = root.configured()
+    names = ("READS", "READS_AT_ONCE", "CONNECTIONS")
+    said = ", ".join(f"DEAR_{name} is SLOW_{name} now" for name in names)
+    same("what is said", (status, err), (0, f"life-configure: {path}: {said}; the old name works, too\n"))
+    site = content(root.path("etc/nginx/sites-available/life"))
+    for part in ("life_client_slow:8m     rate=7r/s;", "life_client_slow burst=33 ", "life_client_slow_at_once 9;"):
+        check(f"the site has {part}", part in site)
+
+
 def test_changed_by_hand(folder: str) -> None:
     """A file that somebody has changed stays, and what the settings make of it is beside it, until --replace is asked
     for."""

@@ -226,6 +226,8 @@ def main() -> None:
     path = os.path.join(words.root, life_settings.USUAL.lstrip("/"))
     settings = life_settings.end_if_wrong("life-configure", path)
     judge(settings, words.files_only)
+    if said := life_settings.old_names(path):
+        print(f"life-configure: {said}", file=sys.stderr)
     try:
         signals = Signals()
         with own_lock(os.path.join(words.root, LOCK), WITHIN, "another life-configure is at work"):

@@ -58,16 +58,16 @@ FORMS = {
     "FRONT_HEADER": (r"[A-Za-z][A-Za-z0-9-]*", "the name of a header such as X-Forwarded-For"),
     "PAGES": RATE,
     "READS": RATE,
-    "DEAR_READS": RATE,
+    "SLOW_READS": RATE,
     "DEPOSITS": RATE,
     "CENSUSES": RATE,
     "PAGES_AT_ONCE": COUNT,
     "READS_AT_ONCE": COUNT,
-    "DEAR_READS_AT_ONCE": COUNT,
+    "SLOW_READS_AT_ONCE": COUNT,
     "DEPOSITS_AT_ONCE": COUNT,
     "CENSUSES_AT_ONCE": COUNT,
     "CONNECTIONS": COUNT,
-    "DEAR_CONNECTIONS": COUNT,
+    "SLOW_CONNECTIONS": COUNT,
     "READS_LOGGED": (r"100%|(?!0(\.0+)?%)[1-9]?[0-9](\.[0-9]{1,2})?%", "a percentage above 0% such as 5%"),
     "CACHE_FREE": (r"[1-9][0-9]{0,8}[kKmMgG]", "a size such as 1g"),
     "QUEUE_TIME": TIME,
@@ -94,6 +94,8 @@ FORMS = {
     ),
     "ALARM_TO": (r"[A-Za-z0-9_.@+-]+", "a mail address"),
 }
+# Release 1.1.0 wrote DEAR_READS, DEAR_READS_AT_ONCE and DEAR_CONNECTIONS.
+OLD, NEW = "DEAR_", "SLOW_"
 # How many lines of a members file are named.
 MOST_FAULTS = 3
 SECONDS = {"ms": 0.001, "s": 1, "m": 60, "h": 3600}
@@ -115,17 +117,25 @@ def lines_of(path: str) -> list[tuple[str, str]]:
 
 
 def taken(lines: Iterable[tuple[str, str]], known: Container[str]) -> dict[str, str]:
-    """The settings in these lines. Each line comes with a text to put before its error. `known` has the names of all
-    settings."""
+    """The settings in these lines, under their new names. Each line comes with a text to put before its error. `known`
+    has the names of all settings."""
     settings = {}
     for place, line in lines:
         found = LINE.fullmatch(line)
         if not found:
             raise Wrong(f"{place}not a setting: {line}")
-        if found[1] not in known:
+        name = found[1].replace(OLD, NEW)
+        if name not in known:
             raise Wrong(f"{place}no such setting: {found[1]}")
-        settings[found[1]] = found[2].strip()
+        settings[name] = found[2].strip()
     return settings
+
+
+def old_names(path: str) -> str:
+    """Which settings of a file have another name now, as a sentence; empty if none has."""
+    names = [line.partition("=")[0] for _, line in lines_of(path) if line.startswith(OLD)]
+    changed = ", ".join(f"{name} is {name.replace(OLD, NEW)} now" for name in names)
+    return f"{path}: {changed}; the old name works, too" if changed else ""
 
 
 def judged(name: str, value: str) -> None:

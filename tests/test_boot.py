@@ -45,6 +45,8 @@ from booted import (
 from clients import HERE, certify, check, same
 from mistakes import AFTER_AN_OLDER_COPY, MISTAKES, Elsewhere, Mistake, is_tried, try_mistake
 from mistakes_files import OLDER_COPY
+from walks import drawn
+from walks_booted import WEIGHT_OF, fault_of_walk
 
 pytestmark = pytest.mark.full
 
@@ -762,6 +764,15 @@ def test_renewal(debian: Debian) -> None:
         configured(debian, **plain).returncode == 0
         and until(lambda: curl(debian, "/deposits/1") == ("200", pattern(1))),
     )
+
+
+@pytest.mark.usefixtures("first_copy")
+def test_walk(debian: Debian) -> None:
+    """A walk of an administrator, drawn by a seed. The environment's SEED and BOOTED_STEPS make it another one, or
+    longer."""
+    seed, count = int(os.environ.get("SEED", "1")), int(os.environ.get("BOOTED_STEPS", "30"))
+    fault = fault_of_walk(debian, drawn(seed, count, WEIGHT_OF))
+    check(f"a walk of {count} steps by seed {seed}{f': {fault}' if fault else ''}", not fault)
 
 
 # ---- mistakes

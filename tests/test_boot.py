@@ -34,6 +34,7 @@ from booted import (
     copies,
     curl,
     installed,
+    main_process,
     over,
     pattern,
     state,
@@ -764,6 +765,22 @@ def test_renewal(debian: Debian) -> None:
         configured(debian, **plain).returncode == 0
         and until(lambda: curl(debian, "/deposits/1") == ("200", pattern(1))),
     )
+
+
+def test_new_proxy(debian: Debian) -> None:
+    """A new version of Debian's HAProxy, whose packages restart only their own service, restarts the gateway's; one
+    that is stopped stays so."""
+    unit, new = (
+        "life-gateway.service",
+        "dpkg-trigger --by-package=haproxy /usr/sbin/haproxy; dpkg --configure --pending",
+    )
+    before = main_process(debian, unit)
+    debian.shell(new)
+    check("the new one runs", until(lambda: main_process(debian, unit) not in (before, "0")))
+    check("it is asked", until(lambda: curl(debian, "/deposits/1?proxy") == ("200", pattern(1))))
+    debian.shell(f"systemctl stop {unit}; {new}")
+    same("a stopped one", state(debian, unit), "inactive")
+    debian.shell(f"systemctl start {unit}")
 
 
 @pytest.mark.usefixtures("first_copy")

@@ -93,7 +93,9 @@ def upgrades(debian: Debian) -> None:
     change_settings(debian, KEEP_MONTHS=11)
     debian.shell(
         f"systemctl stop life-index.timer; sed -i 's/^server {{/&\\n    deny 203.0.113.7; # ours/' {SITE}; "
-        f"printf ' \\r\\n# caf\\351\\n' >> {SETTINGS}; sed -i 's/^ARCHIVE=.*/& /' {SETTINGS}; "
+        f"printf ' \\r\\n# caf\\351\\n' >> {SETTINGS}; sed -i 's/^ARCHIVE=.*/& /; /^COPY_AGE=/d' {SETTINGS}; "
+        # As if the version before had no such setting.
+        "sed /^COPY_AGE=/d /usr/lib/life/settings > /run/life.settings; "
         "printf '[Service]\\nType=oneshot\\nExecStart=/bin/true\\n' > /etc/systemd/system/life-index.service"
     )
     done = installed(debian, LATER)
@@ -122,6 +124,8 @@ def upgrades(debian: Debian) -> None:
     )
     check("numbers continue", until(debian.deposit))
     check("the settings are the administrator's", "KEEP_MONTHS=11" in debian.run("cat", SETTINGS).stdout)
+    new = "These settings are new, and /usr/lib/life/settings explains them: COPY_AGE\n"
+    check(f"the new setting is said, without a question: {done.stdout}", new in done.stdout)
     debian.run("systemctl", "start", "life-index.timer")
 
 

@@ -28,7 +28,7 @@ from booted import (
     SENDMAIL,
     VERSION,
     Debian,
-    Done,
+    Packages,
     alarms,
     configured,
     copies,
@@ -78,21 +78,6 @@ def test_nowhere() -> None:
 # ---- the machine
 
 
-class Packages:
-    """The packages of three versions in one folder, and the first version once more in another."""
-
-    def __init__(self, room: str) -> None:
-        self.out, self.again = os.path.join(room, "out"), os.path.join(room, "again")
-        self.made: list[tuple[str, Done]] = []
-
-    def make(self, folder: str, version: str) -> str:
-        """Makes the packages of a version; what is said on standard error."""
-        words = [os.path.join(TOP, "deploy", "package"), folder, version]
-        done = subprocess.run(words, capture_output=True, text=True, timeout=300)
-        self.made.append((version, done))
-        return done.stderr
-
-
 def end_tests(number: int, _frame: FrameType | None) -> None:
     pytest.exit(f"ended by {signal.Signals(number).name}", 128 + number)
 
@@ -120,6 +105,7 @@ def built(room: str) -> Packages:
     built.make(built.again, VERSION)
     for version in (LATER, LATEST):
         built.make(built.out, version)
+    built.change_settings(LATER)
     return built
 
 

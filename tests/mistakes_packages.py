@@ -3,7 +3,6 @@ function for the table of tests/mistakes.py.
 """
 import json
 import os
-import re
 import sqlite3
 
 import archives
@@ -22,30 +21,12 @@ from booted import (
     until,
 )
 from clients import check, same
-from clubs import SPELLINGS
 from ledger import beginning, rows_of
 from mistakes_files import COPY, DISK, OLDER_COPY, way_back
 
 # ---- settings, packages
 
 BLOCK = b"x = 2, y = 2, rule = B3/S23\n2o$2o!\n"
-
-
-def misspells_the_archive(debian: Debian) -> None:
-    """The settings in twelve spellings: the copy before an upgrade is of the archive that is named."""
-    plain = text_of(debian, SETTINGS)
-    for number, spelling in enumerate(SPELLINGS):
-        lines = re.sub(r"(?m)^ARCHIVE=.*\n", "", plain)
-        with open(debian.path(SETTINGS), "wb") as file:
-            file.write((lines + spelling.format(f"ARCHIVE={ARCHIVE}")).encode("latin-1"))
-        done = debian.run("/usr/lib/life/life-copy", "--before", f"0.0.{number}")
-        check(
-            f"a copy with spelling {spelling!r}: {done.stderr}",
-            done.returncode == 0 and rows_of(debian.path(f"{COPIES}/before-0.0.{number}.db")) == debian.ledger,
-        )
-    with open(debian.path(SETTINGS), "w", encoding="utf-8") as file:
-        file.write(plain)
-    debian.run("bash", "-c", f"rm {COPIES}/before-0.0.*")
 
 
 def is_old(debian: Debian, version: str) -> bool:

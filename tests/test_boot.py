@@ -44,7 +44,7 @@ from booted import (
     until,
 )
 from clients import HERE, certify, check, same
-from mistakes import AFTER_AN_OLDER_COPY, MISTAKES, Elsewhere, Mistake, is_tried, try_mistake
+from mistakes import AFTER_AN_OLDER_COPY, MISTAKES, Mistake, try_mistake
 from mistakes_files import OLDER_COPY
 from walks import drawn
 from walks_booted import WEIGHT_OF, fault_of_walk
@@ -54,25 +54,6 @@ pytestmark = pytest.mark.full
 TOP = os.path.dirname(HERE)
 # Where a Debian of tests/machine.py is kept for the next run: to make it takes a minute.
 TAR = os.environ.get("LIFE_DEBIAN", "")
-
-
-# ---- mistakes that other tests make
-
-
-def named(mistake: Mistake) -> str:
-    return mistake.name
-
-
-@pytest.mark.parametrize("mistake", [one for one in MISTAKES if isinstance(one.done, Elsewhere)], ids=named)
-def test_elsewhere(mistake: Mistake) -> None:
-    """Each mistake that another test makes is made there."""
-    assert isinstance(mistake.done, Elsewhere)
-    check(f"{mistake.name}: {mistake.done}", is_tried(mistake.done, mistake.said))
-
-
-def test_nowhere() -> None:
-    """A function that is not there is seen."""
-    check("a function that is not there is seen", not is_tried(Elsewhere("restores", "no_such_function"), ""))
 
 
 # ---- the machine
@@ -782,7 +763,7 @@ def test_walk(debian: Debian) -> None:
 
 
 @pytest.mark.usefixtures("first_copy")
-@pytest.mark.parametrize("mistake", [one for one in MISTAKES if not isinstance(one.done, Elsewhere)], ids=named)
+@pytest.mark.parametrize("mistake", [pytest.param(one, id=one.name) for one in MISTAKES])
 def test_mistake(debian: Debian, mistake: Mistake) -> None:
     """After a mistake nothing is lost, it is said what is wrong, and the archive is served once that was done which is
     said. The last ones remove the packages."""

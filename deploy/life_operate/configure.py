@@ -31,7 +31,7 @@ from life_operate import settings as life_settings
 from life_operate.archive import Refused
 from life_operate.exchange import own_lock
 from life_operate.loading import load
-from life_operate.settings import Wrong
+from life_operate.settings import BadSetting
 from life_operate.signals import Interrupted, Signals, end_by
 from life_operate.templates import GATEWAY, TEMPLATES, filled_templates
 
@@ -165,7 +165,7 @@ def put_checked(root: str, name: str, text: str, replace: bool) -> bool:
     done = subprocess.run(CHECKS[name], capture_output=True, text=True, start_new_session=True, check=False)
     if done.returncode:
         bring_back(path)
-        raise Wrong(f"{path} was not changed: {(done.stderr or done.stdout).strip().splitlines()[0]}")
+        raise BadSetting(f"{path} was not changed: {(done.stderr or done.stdout).strip().splitlines()[0]}")
     os.remove(path + BEFORE)
     return True
 
@@ -198,7 +198,7 @@ def judge(settings: dict[str, str], files_only: bool) -> None:
     for judged, is_firm in judges:
         try:
             judged(settings)
-        except Wrong as fault:
+        except BadSetting as fault:
             if is_firm and not files_only:
                 sys.exit(f"life-configure: {fault}")
             print(f"life-configure: {fault}", file=sys.stderr)
@@ -232,7 +232,7 @@ def main() -> None:
         signals = Signals()
         with own_lock(os.path.join(words.root, LOCK), WITHIN, "another life-configure is at work"):
             configure(words, settings, signals)
-    except (OSError, Refused, Wrong) as fault:
+    except (OSError, Refused, BadSetting) as fault:
         sys.exit(f"life-configure: {fault}")
     except Interrupted as end:
         print(f"life-configure: {end}; the next life-configure does the rest", file=sys.stderr, flush=True)

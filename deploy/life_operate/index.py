@@ -45,7 +45,7 @@ from xml.sax.saxutils import escape
 
 from life_operate.archive import Copies, Refused, sync
 from life_operate.exchange import own_lock
-from life_operate.settings import Wrong
+from life_operate.settings import BadSetting
 from life_operate.withdrawals import reasons_in
 
 VERSION = 1
@@ -526,5 +526,5 @@ def main() -> None:
     words = parser.parse_args()
     try:
         print(f"{words.folder}: {made(words)}")
-    except (OSError, Refused, Wrong) as fault:
+    except (OSError, Refused, BadSetting) as fault:
         sys.exit(f"life-index: {line_of(fault)}")

@@ -101,7 +101,7 @@ MOST_FAULTS = 3
 SECONDS = {"ms": 0.001, "s": 1, "m": 60, "h": 3600}
 
 
-class Wrong(Exception):
+class BadSetting(Exception):
     """A problem of the settings, as a sentence."""
 
 
@@ -123,10 +123,10 @@ def taken(lines: Iterable[tuple[str, str]], known: Container[str]) -> dict[str, 
     for place, line in lines:
         found = LINE.fullmatch(line)
         if not found:
-            raise Wrong(f"{place}not a setting: {line}")
+            raise BadSetting(f"{place}not a setting: {line}")
         name = found[1].replace(OLD, NEW)
         if name not in known:
-            raise Wrong(f"{place}no such setting: {found[1]}")
+            raise BadSetting(f"{place}no such setting: {found[1]}")
         settings[name] = found[2].strip()
     return settings
 
@@ -142,7 +142,7 @@ def judged(name: str, value: str) -> None:
     form, words = FORMS[name]
     port = re.search(r"[0-9]+$", value) if name.endswith("PORT") or name.startswith(("LISTEN", "REDIRECT")) else None
     if not re.fullmatch(form, value) or (port and int(port[0]) > 65535):
-        raise Wrong(f"{name}={value}: it has to be {words}")
+        raise BadSetting(f"{name}={value}: it has to be {words}")
 
 
 def seconds(value: str) -> float:
@@ -168,7 +168,7 @@ def is_calendar(value: str) -> bool:
 def judge_passwords(settings: dict[str, str]) -> None:
     """Refuses a gateway that sends passwords unencrypted. Copies and restores don't check this."""
     if settings["MEMBERS_FILE"] and settings["TLS"] == "no" and not is_here_alone(settings):
-        raise Wrong(
+        raise BadSetting(
             "MEMBERS_FILE needs TLS=yes, or LISTEN and LISTEN_ALSO only on 127.0.0.1 and [::1]: "
             "otherwise passwords travel unencrypted"
         )
@@ -179,10 +179,10 @@ def judge_times(settings: dict[str, str]) -> None:
     stopped while somebody still waits for its answer."""
     queue, answer = seconds(settings["QUEUE_TIME"]), seconds(settings["ANSWER_TIME"])
     if seconds(settings["WEB_TIME"]) <= queue + answer:
-        raise Wrong("WEB_TIME has to be longer than QUEUE_TIME and ANSWER_TIME together")
+        raise BadSetting("WEB_TIME has to be longer than QUEUE_TIME and ANSWER_TIME together")
     for name, value in (("QUEUE_TIME", queue), ("WATCH_SECONDS", int(settings["WATCH_SECONDS"]))):
         if value <= answer:
-            raise Wrong(f"{name} has to be longer than ANSWER_TIME")
+            raise BadSetting(f"{name} has to be longer than ANSWER_TIME")
 
 
 def is_here_alone(settings: dict[str, str]) -> bool:
@@ -195,14 +195,14 @@ def judge_reader(settings: dict[str, str], user: str = "www-data") -> None:
     user exists."""
     path = settings["MEMBERS_FILE"]
     if path and can(user, "-r", path) is False:
-        raise Wrong(f"MEMBERS_FILE={path}: {user} can't read it: chown root:{user}, chmod 640")
+        raise BadSetting(f"MEMBERS_FILE={path}: {user} can't read it: chown root:{user}, chmod 640")
 
 
 def judge_secrecy(settings: dict[str, str]) -> None:
     """Refuses a members file that every user of this machine can read: hashes can be guessed."""
     path = settings["MEMBERS_FILE"]
     if path and can("nobody", "-r", path):
-        raise Wrong(f"MEMBERS_FILE={path}: every user of this machine can read it: chown root:www-data, chmod 640")
+        raise BadSetting(f"MEMBERS_FILE={path}: every user of this machine can read it: chown root:www-data, chmod 640")
 
 
 # The names that the program accepts, and the forms of hashes that nginx and Debian's crypt(3) know.
@@ -222,7 +222,7 @@ def judge_members(settings: dict[str, str]) -> None:
         faults = [f"MEMBERS_FILE={path}: it has no members, so nobody can deposit"]
     if faults:
         more = f"; and {len(faults) - MOST_FAULTS} more" if len(faults) > MOST_FAULTS else ""
-        raise Wrong("; ".join(faults[:MOST_FAULTS]) + more)
+        raise BadSetting("; ".join(faults[:MOST_FAULTS]) + more)
 
 
 def fault_of_member(line: str) -> str:
@@ -254,12 +254,12 @@ def judge(settings: dict[str, str]) -> None:
         judged(name, value)
     ports = [settings[name] for name in ("LIFE_PORT", "PROXY_PORT", "METRICS_PORT")]
     if len(set(ports)) < len(ports):
-        raise Wrong("two of LIFE_PORT, PROXY_PORT and METRICS_PORT are the same port")
+        raise BadSetting("two of LIFE_PORT, PROXY_PORT and METRICS_PORT are the same port")
     if os.path.dirname(settings["ARCHIVE"]) != settings["ARCHIVE_FOLDER"].rstrip("/"):
-        raise Wrong("ARCHIVE is not in ARCHIVE_FOLDER")
+        raise BadSetting("ARCHIVE is not in ARCHIVE_FOLDER")
     for name in ("BACKUP_TIMES", "INDEX_TIMES"):
         if not is_calendar(settings[name]):
-            raise Wrong(f"{name}={settings[name]}: it has to be {CALENDAR[1]}")
+            raise BadSetting(f"{name}={settings[name]}: it has to be {CALENDAR[1]}")
 
 
 def settings_of(path: str | None, words: Iterable[str] = ()) -> dict[str, str]:
@@ -280,7 +280,7 @@ def needed_of(path: str, names: Iterable[str]) -> tuple[dict[str, str], list[str
     for place, line in lines_of(path):
         try:
             settings.update(taken([(place, line)], settings))
-        except Wrong as fault:
+        except BadSetting as fault:
             faults.append(str(fault))
     for name in names:
         judged(name, settings[name])
@@ -291,7 +291,7 @@ def end_if_wrong(name: str, path: str) -> dict[str, str]:
     """The settings of a file. If there is an error, ends the script, which has this name, with a line about it."""
     try:
         return settings_of(path)
-    except (OSError, Wrong) as fault:
+    except (OSError, BadSetting) as fault:
         sys.exit(f"{name}: {fault}")
 
 
@@ -299,7 +299,7 @@ def end_if_unusable(name: str, path: str, needed: Iterable[str]) -> dict[str, st
     """The settings that an emergency command needs. Errors in other lines are printed and ignored."""
     try:
         settings, faults = needed_of(path, needed)
-    except (OSError, Wrong) as fault:
+    except (OSError, BadSetting) as fault:
         sys.exit(f"{name}: {fault}")
     for wrong in faults:
         print(f"{name}: ignored: {wrong}", file=sys.stderr)

@@ -9,7 +9,7 @@ import re
 
 import jinja2
 
-from life_operate.settings import Wrong
+from life_operate.settings import BadSetting
 from life_operate.withdrawals import reasons_in
 
 TEMPLATES = os.path.join(os.path.dirname(os.path.dirname(os.path.realpath(__file__))), "templates")
@@ -52,9 +52,9 @@ def filled_templates(folder: str, settings: dict[str, str]) -> dict[str, str]:
             try:
                 text = jinja.get_template(name).render(values)
             except jinja2.TemplateError as fault:
-                raise Wrong(f"{name}: {fault}") from fault
+                raise BadSetting(f"{name}: {fault}") from fault
             # Earlier releases wrote @TLS?@ at the beginning of a line for {% if TLS %}.
             if re.search(r"@[A-Z_]+[?!]@", text):
-                raise Wrong(f"{name} is a template of an earlier version")
+                raise BadSetting(f"{name} is a template of an earlier version")
             files[name] = text.replace(DIGEST, hashlib.sha256(text.encode()).hexdigest())
     return files

@@ -183,21 +183,21 @@ def put_all(root: str, settings: dict[str, str], replace: bool, signals: Signals
     return changed
 
 
-def judge(settings: dict[str, str], files_only: bool) -> None:
+def check(settings: dict[str, str], files_only: bool) -> None:
     """Ends if passwords would travel unencrypted, or if nginx can't read them or everybody can. An upgrade, which only
     writes files, reports that and continues. If everybody can read the passwords, it loads the files too: that was so
     before. Times that don't fit together are only reported, since those of release 1.0.0 don't fit, and so are members
     who can't deposit."""
-    judges: list[tuple[Callable[[dict[str, str]], None], bool]] = [
-        (life_settings.judge_passwords, True),
-        (life_settings.judge_reader, True),
-        (life_settings.judge_secrecy, "DPKG_MAINTSCRIPT_NAME" not in os.environ),
-        (life_settings.judge_members, False),
-        (life_settings.judge_times, False),
+    checks: list[tuple[Callable[[dict[str, str]], None], bool]] = [
+        (life_settings.check_passwords, True),
+        (life_settings.check_reader, True),
+        (life_settings.check_secrecy, "DPKG_MAINTSCRIPT_NAME" not in os.environ),
+        (life_settings.check_members, False),
+        (life_settings.check_times, False),
     ]
-    for judged, is_firm in judges:
+    for checked, is_firm in checks:
         try:
-            judged(settings)
+            checked(settings)
         except BadSetting as fault:
             if is_firm and not files_only:
                 sys.exit(f"life-configure: {fault}")
@@ -225,7 +225,7 @@ def main() -> None:
     os.umask(0o022)
     path = os.path.join(words.root, life_settings.USUAL.lstrip("/"))
     settings = life_settings.end_if_wrong("life-configure", path)
-    judge(settings, words.files_only)
+    check(settings, words.files_only)
     if said := life_settings.old_names(path):
         print(f"life-configure: {said}", file=sys.stderr)
     try:

@@ -63,7 +63,7 @@ TIMES_THE_ROOM = 3
 ENDS_WITHIN = 10
 ROOM = ".life-copy-"
 # A function that refuses a bad new copy. It gets the copy's path and content.
-Judge = Callable[[str, Contents], None]
+Check = Callable[[str, Contents], None]
 
 
 # ---- one copy
@@ -91,7 +91,7 @@ def put(new: str, found: Contents, copy: str) -> None:
         sync(os.path.dirname(copy))
 
 
-def made(archive: str, copy: str, judge: Judge, signals: Signals) -> Contents:
+def made(archive: str, copy: str, check: Check, signals: Signals) -> Contents:
     """Makes the copy in a folder next to it, and returns its content."""
     if os.path.exists(copy) and os.path.samefile(archive, copy):
         raise Refused(f"{copy} is the archive itself")
@@ -101,7 +101,7 @@ def made(archive: str, copy: str, judge: Judge, signals: Signals) -> Contents:
         copied_in_time(archive, new)
         fold(new, archive)
         found = Contents(new, archive)
-        judge(new, found)
+        check(new, found)
         put(new, found, copy)
         return found
 
@@ -146,11 +146,11 @@ def look_for_room(archive: str, folder: str) -> None:
         raise Refused(f"{folder} has room for {free:,} bytes, but a copy needs {wanted:,}")
 
 
-def judge_by(program: str, before: list[Contents]) -> Judge:
+def check_by(program: str, before: list[Contents]) -> Check:
     """The requirements of a club's new copy: it has no less than these, and the program opens it and finds every row
     sound."""
 
-    def judge(new: str, found: Contents) -> None:
+    def check(new: str, found: Contents) -> None:
         for there in before:
             if why := lacks(found, there):
                 raise Refused(why)
@@ -159,7 +159,7 @@ def judge_by(program: str, before: list[Contents]) -> Judge:
         if wrong := try_by_program(program, trial, found):
             raise Refused(f"{found.name} is not sound: {wrong}")
 
-    return judge
+    return check
 
 
 def send(copy: str, place: str) -> None:
@@ -222,7 +222,7 @@ def club_copy(settings: dict[str, str], signals: Signals) -> str:
         found_before = [copies.newest_good(stamps) for stamps in (copies.future(), copies.past())]
         copy = copies.path(datetime.datetime.now(datetime.timezone.utc).strftime(STAMP))
         found = made(
-            archive, copy, judge_by(settings["PROGRAM"], [before for before, _ in found_before if before]), signals
+            archive, copy, check_by(settings["PROGRAM"], [before for before, _ in found_before if before]), signals
         )
         remove_old(
             Copies(archive, folder),

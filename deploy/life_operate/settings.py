@@ -138,7 +138,7 @@ def old_names(path: str) -> str:
     return f"{path}: {changed}; the old name works, too" if changed else ""
 
 
-def judged(name: str, value: str) -> None:
+def check_one(name: str, value: str) -> None:
     form, words = FORMS[name]
     port = re.search(r"[0-9]+$", value) if name.endswith("PORT") or name.startswith(("LISTEN", "REDIRECT")) else None
     if not re.fullmatch(form, value) or (port and int(port[0]) > 65535):
@@ -165,7 +165,7 @@ def is_calendar(value: str) -> bool:
     )
 
 
-def judge_passwords(settings: dict[str, str]) -> None:
+def check_passwords(settings: dict[str, str]) -> None:
     """Refuses a gateway that sends passwords unencrypted. Copies and restores don't check this."""
     if settings["MEMBERS_FILE"] and settings["TLS"] == "no" and not is_here_alone(settings):
         raise BadSetting(
@@ -174,7 +174,7 @@ def judge_passwords(settings: dict[str, str]) -> None:
         )
 
 
-def judge_times(settings: dict[str, str]) -> None:
+def check_times(settings: dict[str, str]) -> None:
     """Refuses times with which a waiting request would expire before the one ahead of it, or the program would be
     stopped while somebody still waits for its answer."""
     queue, answer = seconds(settings["QUEUE_TIME"]), seconds(settings["ANSWER_TIME"])
@@ -190,7 +190,7 @@ def is_here_alone(settings: dict[str, str]) -> bool:
     return all(re.match(r"127\.|localhost:|\[::1\]:|$", settings[name]) for name in ("LISTEN", "LISTEN_ALSO"))
 
 
-def judge_reader(settings: dict[str, str], user: str = "www-data") -> None:
+def check_reader(settings: dict[str, str], user: str = "www-data") -> None:
     """Refuses a members file that nginx, running as this user, can't read. Only root can check that, and only if the
     user exists."""
     path = settings["MEMBERS_FILE"]
@@ -198,7 +198,7 @@ def judge_reader(settings: dict[str, str], user: str = "www-data") -> None:
         raise BadSetting(f"MEMBERS_FILE={path}: {user} can't read it: chown root:{user}, chmod 640")
 
 
-def judge_secrecy(settings: dict[str, str]) -> None:
+def check_secrecy(settings: dict[str, str]) -> None:
     """Refuses a members file that every user of this machine can read: hashes can be guessed."""
     path = settings["MEMBERS_FILE"]
     if path and can("nobody", "-r", path):
@@ -210,7 +210,7 @@ MEMBER = re.compile(r"[a-z0-9-]{1,32}")
 HASH = re.compile(r"\$(1|2[abxy]|5|6|7|apr1|gy|y)\$.+|\{(PLAIN|SHA|SSHA)\}.+|[./0-9A-Za-z]{13}")
 
 
-def judge_members(settings: dict[str, str]) -> None:
+def check_members(settings: dict[str, str]) -> None:
     """Refuses a members file with lines that let nobody deposit. Whoever can't read the file says nothing."""
     path = settings["MEMBERS_FILE"]
     try:
@@ -248,10 +248,10 @@ def can(user: str, what: str, path: str) -> bool | None:
     return done.returncode == 0
 
 
-def judge(settings: dict[str, str]) -> None:
+def check_all(settings: dict[str, str]) -> None:
     """Refuses invalid values, and values that don't fit together."""
     for name, value in settings.items():
-        judged(name, value)
+        check_one(name, value)
     ports = [settings[name] for name in ("LIFE_PORT", "PROXY_PORT", "METRICS_PORT")]
     if len(set(ports)) < len(ports):
         raise BadSetting("two of LIFE_PORT, PROXY_PORT and METRICS_PORT are the same port")
@@ -269,7 +269,7 @@ def settings_of(path: str | None, words: Iterable[str] = ()) -> dict[str, str]:
     if path:
         settings.update(taken(lines_of(path), settings))
     settings.update(taken((("", word) for word in words), settings))
-    judge(settings)
+    check_all(settings)
     return settings
 
 
@@ -283,7 +283,7 @@ def needed_of(path: str, names: Iterable[str]) -> tuple[dict[str, str], list[str
         except BadSetting as fault:
             faults.append(str(fault))
     for name in names:
-        judged(name, settings[name])
+        check_one(name, settings[name])
     return {name: settings[name] for name in names}, faults
 
 

@@ -44,7 +44,7 @@ from life_operate.archive import (
     copied_in_time,
     fold,
     has_commit,
-    lacks,
+    replacement_fault,
     line_of,
     locked,
     state_of,
@@ -84,7 +84,7 @@ def put(new: str, found: Contents, copy: str) -> None:
     with contextlib.ExitStack() as stack:
         if os.path.exists(copy):
             stack.enter_context(held(copy))
-            if why := lacks(found, Contents(copy, copy)):
+            if why := replacement_fault(found, Contents(copy, copy)):
                 raise Refused(why)
         sync(new)
         os.replace(new, copy)
@@ -152,7 +152,7 @@ def check_by(program: str, before: list[Contents]) -> Check:
 
     def check(new: str, found: Contents) -> None:
         for there in before:
-            if why := lacks(found, there):
+            if why := replacement_fault(found, there):
                 raise Refused(why)
         trial = new + ".trial"
         shutil.copyfile(new, trial)
@@ -347,7 +347,7 @@ def copy_for_root(archive: str, copy: str, helper: Helper, signals: Signals) -> 
         if (number := helper.file("there")) is not None:
             with os.fdopen(number, "rb") as file, open(there, "xb") as out:
                 shutil.copyfileobj(file, out, 1 << 20)
-            if why := lacks(found, Contents(there, copy)):
+            if why := replacement_fault(found, Contents(there, copy)):
                 raise Refused(why)
         place = helper.file("begin")
         assert place is not None, "a new file"

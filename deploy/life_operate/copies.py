@@ -69,7 +69,7 @@ Check = Callable[[str, Contents], None]
 # ---- one copy
 
 
-def held(copy: str) -> BinaryIO:
+def locked_copy(copy: str) -> BinaryIO:
     """Opens the existing copy with a lock that keeps other programs from writing to it."""
     if not (file := locked(copy)):
         raise Refused(f"{copy} was not replaced: a program has it open")
@@ -78,12 +78,12 @@ def held(copy: str) -> BinaryIO:
     return file
 
 
-def put(new: str, found: Contents, copy: str) -> None:
+def replace_copy(new: str, found: Contents, copy: str) -> None:
     """Gives the new copy its name, unless the existing copy has something that it lacks."""
     # The existing copy stays open until the new one has its name: closing it ends the lock.
     with contextlib.ExitStack() as stack:
         if os.path.exists(copy):
-            stack.enter_context(held(copy))
+            stack.enter_context(locked_copy(copy))
             if why := replacement_fault(found, Contents(copy, copy)):
                 raise Refused(why)
         sync(new)
@@ -91,7 +91,7 @@ def put(new: str, found: Contents, copy: str) -> None:
         sync(os.path.dirname(copy))
 
 
-def made(archive: str, copy: str, check: Check, signals: Signals) -> Contents:
+def make_copy(archive: str, copy: str, check: Check, signals: Signals) -> Contents:
     """Makes the copy in a folder next to it, and returns its content."""
     if os.path.exists(copy) and os.path.samefile(archive, copy):
         raise Refused(f"{copy} is the archive itself")
@@ -102,7 +102,7 @@ def made(archive: str, copy: str, check: Check, signals: Signals) -> Contents:
         fold(new, archive)
         found = Contents(new, archive)
         check(new, found)
-        put(new, found, copy)
+        replace_copy(new, found, copy)
         return found
 
 
@@ -221,7 +221,7 @@ def club_copy(settings: dict[str, str], signals: Signals) -> str:
         # A copy with a time in the future is older than its name says, so it does not count as the newest one.
         found_before = [copies.newest_good(stamps) for stamps in (copies.future(), copies.past())]
         copy = copies.path(datetime.datetime.now(datetime.timezone.utc).strftime(STAMP))
-        found = made(
+        found = make_copy(
             archive, copy, check_by(settings["PROGRAM"], [before for before, _ in found_before if before]), signals
         )
         remove_old(
@@ -265,7 +265,7 @@ def before_upgrade(settings: dict[str, str], version: str, signals: Signals) -> 
 
 
 def one_copy(archive: str, copy: str, signals: Signals) -> str:
-    return f"{copy}: {made(archive, copy, lambda new, found: None, signals).text()}"
+    return f"{copy}: {make_copy(archive, copy, lambda new, found: None, signals).text()}"
 
 
 # ---- rights
@@ -309,7 +309,7 @@ class OwnFolder:
         """The copy that is there, to be compared with the new one."""
         if not os.path.exists(self.copy):
             return "", None
-        file, self.before = held(self.copy), state_of(self.copy)
+        file, self.before = locked_copy(self.copy), state_of(self.copy)
         number = os.dup(file.fileno())
         file.close()
         return "", number
@@ -319,9 +319,9 @@ class OwnFolder:
         self.room = tempfile.mkdtemp(prefix=ROOM, dir=os.path.dirname(self.copy))
         return "", os.open(os.path.join(self.room, "new.db"), os.O_WRONLY | os.O_CREAT | os.O_EXCL, 0o600)
 
-    def put(self) -> tuple[str, int | None]:
+    def finish(self) -> tuple[str, int | None]:
         # The lock ends with the function, so nobody begins to write to what is replaced.
-        holding = held(self.copy) if os.path.exists(self.copy) else None
+        holding = locked_copy(self.copy) if os.path.exists(self.copy) else None
         if (state_of(self.copy) if holding else None) != self.before:
             raise Refused(f"{self.copy} has changed meanwhile")
         new = os.path.join(self.room, "new.db")
@@ -353,7 +353,7 @@ def copy_for_root(archive: str, copy: str, helper: Helper, signals: Signals) -> 
         assert place is not None, "a new file"
         with os.fdopen(place, "wb") as out, open(new, "rb") as file:
             shutil.copyfileobj(file, out, 1 << 20)
-        helper.ask("put")
+        helper.ask("finish")
     say(f"{copy}: {found.text()}")
 
 
@@ -368,7 +368,7 @@ def done_for_root(owner: pwd.struct_passwd, archive: str, copy: str) -> None:
         lambda _, helper, signals: copy_for_root(archive, folder.copy, helper, signals),
     )
     try:
-        status = identity.split(owner, worker, {"there": folder.there, "begin": folder.begin, "put": folder.put})
+        status = identity.split(owner, worker, {"there": folder.there, "begin": folder.begin, "finish": folder.finish})
     finally:
         folder.end()
     for number in ENDING:

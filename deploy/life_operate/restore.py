@@ -29,7 +29,7 @@ from life_operate import commands, exchange
 from life_operate.archive import LEAST_COMMIT, Contents, Refused, answered, begin_of, fold, has_commit, line_of, sync
 from life_operate.exchange import UNIT, say
 from life_operate.identity import Helper
-from life_operate.known import (
+from life_operate.losses import (
     RESTORE,
     CurrentArchive,
     copies_with_more,

@@ -34,7 +34,7 @@ import time
 from collections.abc import Callable
 from typing import BinaryIO
 
-from life_operate import commands, identity
+from life_operate import commands, privileges
 from life_operate import settings as life_settings
 from life_operate.archive import (
     STAMP,
@@ -52,7 +52,7 @@ from life_operate.archive import (
     try_by_program,
 )
 from life_operate.exchange import COPY_WITHIN, folder_lock, new_room, remove_old_rooms, say
-from life_operate.identity import Helper
+from life_operate.privileges import Helper
 from life_operate.signals import ENDING, Interrupted, Signals, end_by, started
 
 # How many characters of a time name its day, and its month.
@@ -274,7 +274,7 @@ def one_copy(archive: str, copy: str, signals: Signals) -> str:
 def give_up_rights(owner: pwd.struct_passwd) -> None:
     """Does the work as the owner of the folder, if root runs it."""
     if os.geteuid() == 0 and owner.pw_uid != 0:
-        identity.become(owner)
+        privileges.become(owner)
 
 
 def owner_of_folder(path: str) -> pwd.struct_passwd:
@@ -368,7 +368,9 @@ def done_for_root(owner: pwd.struct_passwd, archive: str, copy: str) -> None:
         lambda _, helper, signals: copy_for_root(archive, folder.copy, helper, signals),
     )
     try:
-        status = identity.split(owner, worker, {"there": folder.there, "begin": folder.begin, "finish": folder.finish})
+        status = privileges.split(
+            owner, worker, {"there": folder.there, "begin": folder.begin, "finish": folder.finish}
+        )
     finally:
         folder.end()
     for number in ENDING:
@@ -386,7 +388,7 @@ def done(words: argparse.Namespace, signals: Signals) -> str:
     settings = life_settings.end_if_wrong("life-copy", words.settings)
     # rsync needs a current folder that its user may read.
     os.chdir("/")
-    give_up_rights(identity.user_of(settings["LIFE_USER"]))
+    give_up_rights(privileges.user_of(settings["LIFE_USER"]))
     return before_upgrade(settings, words.before, signals) if words.before else club_copy(settings, signals)
 
 

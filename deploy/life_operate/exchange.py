@@ -20,7 +20,7 @@ import time
 from collections.abc import Callable, Iterator
 
 from life_operate.archive import Refused, line_of, locked, sync
-from life_operate.identity import Gone, Helper
+from life_operate.privileges import Gone, Helper
 from life_operate.signals import Signals
 
 UNIT = "life.service"

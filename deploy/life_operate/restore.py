@@ -28,7 +28,7 @@ from typing import BinaryIO
 from life_operate import commands, exchange
 from life_operate.archive import LEAST_COMMIT, Contents, Refused, answered, begin_of, fold, has_commit, line_of, sync
 from life_operate.exchange import UNIT, say
-from life_operate.identity import Helper
+from life_operate.privileges import Helper
 from life_operate.losses import (
     RESTORE,
     CurrentArchive,

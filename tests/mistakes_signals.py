@@ -19,7 +19,7 @@ from booted import (
     until,
 )
 from clients import check, same
-from clubs import STEPPED
+from fake_systemd import STEPPED
 from ledger import Ledger, rows_of
 
 SEED = 20261130

@@ -14,7 +14,7 @@ import tempfile
 import pytest
 
 from clients import GLIDER, HERE, Server, check, deposit, exchanged, message, same
-from clubs import HASH, content, file_of, fill, write
+from fake_systemd import HASH, content, file_of, fill, write
 
 pytestmark = pytest.mark.full
 

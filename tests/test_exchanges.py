@@ -14,7 +14,7 @@ import pytest
 
 import archives
 from clients import GLIDER_TEXT, Server, check, deposit, exchanged, run, same
-from clubs import (
+from fake_systemd import (
     FIVE,
     MEMBERS,
     THREE,

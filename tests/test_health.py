@@ -20,10 +20,10 @@ from pathlib import Path
 
 import pytest
 
-import clubs
+import fake_systemd
 from archives import new_archive
 from clients import BLOCKS, GLIDER, GLIDER_TEXT, HERE, Server, check, deposit, exchanged, same
-from clubs import HASH
+from fake_systemd import HASH
 from loaded import AGAIN, Loaded, content, write
 
 pytestmark = pytest.mark.full
@@ -442,7 +442,7 @@ def test_spellings(program: str, folder: str) -> None:
         f"PROGRAM={program}\nARCHIVE_FOLDER={os.path.dirname(archive)}\nBACKUP_FOLDER={copies}\n"
         f"LIFE_USER={getpass.getuser()}\nMETRICS_FOLDER=\n"
     )
-    for number, spelling in enumerate(clubs.SPELLINGS):
+    for number, spelling in enumerate(fake_systemd.SPELLINGS):
         path = os.path.join(room, f"settings{number}")
         with open(path, "wb") as file:
             file.write((others + spelling.format(f"ARCHIVE={archive}")).encode("latin-1"))

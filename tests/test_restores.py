@@ -16,7 +16,7 @@ import pytest
 
 import clients
 from clients import Server, check, deposit, exchanged, same
-from clubs import (
+from fake_systemd import (
     DEPLOY,
     MEMBERS,
     STAMPED,

@@ -1,6 +1,6 @@
 """A walk of an administrator over a club: a seed draws commands, mistakes and accidents. After each step, no
 acknowledged deposit is lost unless a command has said so, and what a command says is what is served and what is on the
-disk. After the walk everything works again. systemd is the stand-in of clubs.py.
+disk. After the walk everything works again. systemd is the stand-in of fake_systemd.py.
 """
 import os
 import random
@@ -13,7 +13,7 @@ from typing import NamedTuple
 
 import ledger
 from clients import deposit, exchanged
-from clubs import DEPLOY, Answer, Club, content, deposit_of, file_of, small_disk, write
+from fake_systemd import DEPLOY, Answer, Club, content, deposit_of, file_of, small_disk, write
 from ledger import Ledger, rows_of
 
 SIGNALS = (signal.SIGINT, signal.SIGTERM, signal.SIGHUP, signal.SIGKILL)

@@ -8,7 +8,7 @@ from collections.abc import Callable
 from typing import NamedTuple
 
 import ledger
-from booted import Debian, state, until
+from debian import Debian, state, until
 from clients import check
 from mistakes_files import (
     boots_without_its_disk,

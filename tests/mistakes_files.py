@@ -4,8 +4,8 @@ of tests/mistakes.py.
 import os
 import re
 
-from booted import ARCHIVE, COPIES, NEWEST, Debian, Done
-from booted import (
+from debian import ARCHIVE, COPIES, NEWEST, Debian, Done
+from debian import (
     alarms,
     copies,
     curl,

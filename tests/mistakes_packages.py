@@ -7,8 +7,8 @@ import sqlite3
 
 import archives
 import ledger
-from booted import ARCHIVE, COPIES, LATER, LATEST, SETTINGS, SITE, VERSION, Debian
-from booted import (
+from debian import ARCHIVE, COPIES, LATER, LATEST, SETTINGS, SITE, VERSION, Debian
+from debian import (
     change_settings,
     copies,
     curl,

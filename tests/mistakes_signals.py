@@ -6,8 +6,8 @@ import random
 import time
 
 import ledger
-from booted import ARCHIVE, COPIES, GLIDER, KEPT_MONTHS, LATER, LATER_MONTHS, SETTINGS, SITE, VERSION, Debian
-from booted import (
+from debian import ARCHIVE, COPIES, GLIDER, KEPT_MONTHS, LATER, LATER_MONTHS, SETTINGS, SITE, VERSION, Debian
+from debian import (
     alarms,
     change_settings,
     configured,

@@ -20,7 +20,7 @@ import pytest
 import clients
 import machine
 import scripts
-from booted import (
+from debian import (
     ARCHIVE,
     COPIES,
     LATER,
@@ -47,7 +47,7 @@ from clients import HERE, certify, check, same
 from mistakes import AFTER_AN_OLDER_COPY, MISTAKES, Mistake, try_mistake
 from mistakes_files import OLDER_COPY
 from walks import drawn
-from walks_booted import WEIGHT_OF, fault_of_walk
+from debian_walks import WEIGHT_OF, fault_of_walk
 
 pytestmark = pytest.mark.full
 

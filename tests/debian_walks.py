@@ -6,8 +6,8 @@ import random
 from collections.abc import Callable
 
 import ledger
-from booted import ARCHIVE, COPIES, SETTINGS, SITE, VERSION, Debian, Done
-from booted import change_settings, copies, curl, main_process, packages_of, state, text_of, until
+from debian import ARCHIVE, COPIES, SETTINGS, SITE, VERSION, Debian, Done
+from debian import change_settings, copies, curl, main_process, packages_of, state, text_of, until
 from ledger import rows_of
 from mistakes_files import way_back
 from walks import Broken, Step, require

@@ -56,7 +56,7 @@ PLANTED = {
     "deploy/settings": ("# The ports on", "# What stands on"),
     "deploy/templates/life.service": ("# A missing archive", "# Serving goes on. An archive"),
     "deploy/templates/gateway/haproxy.cfg": ("HAProxy between nginx and", "HAProxy, of which nothing is told, and"),
-    "deploy/life_operate/age.py": ("Reports problems of", "Says what is wrong with"),
+    "deploy/life_operate/health.py": ("Reports problems of", "Says what is wrong with"),
     "deploy/debian/copy-before.sh": ("life: the archive", "life: so many archives"),
     "examples/scripts/put-folder": ("# Prints that a file was refused", "# A file is none, and was refused"),
     "life": ("proving and building the program", "the program is told"),

@@ -16,7 +16,7 @@ LOADING = """
 import sys
 sys.path.insert(0, sys.argv[1])
 from life_operate import loading
-from life_operate.settings import Wrong
+from life_operate.settings import BadSetting
 
 folder, port = sys.argv[2:4]
 loading.ENABLED_SITE = site = f"{folder}/nginx.conf"
@@ -24,7 +24,7 @@ loading.NGINX_READ, loading.TAKEN_WITHIN = f"{folder}/nginx.read", 3
 loading.HAPROXY, loading.HAPROXY_READ = f"{folder}/haproxy.cfg", f"{folder}/haproxy.read"
 try:
     loading.load([], {"LISTEN": f"127.0.0.1:{port}", "HOST": "", "TLS": "no"}, site)
-except Wrong as fault:
+except BadSetting as fault:
     sys.exit(str(fault))
 """
 LOADED_SYSTEMCTL = """#!/bin/sh

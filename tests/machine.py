@@ -34,7 +34,8 @@ exec env --ignore-environment container=private PATH=/usr/sbin:/usr/bin:/sbin:/b
 """
 # What the packages of life depend on; and, for what is tried, another machine's ssh and rsync, and a sendmail.
 PACKAGES = (
-    "systemd,systemd-sysv,dbus,nginx-light,haproxy,logrotate,python3,curl,libsqlite3-0,procps,openssh-server,rsync,dma"
+    "systemd,systemd-sysv,dbus,nginx-light,haproxy,logrotate,python3-jinja2,curl,libsqlite3-0,procps,openssh-server,"
+    "rsync,dma"
 )
 NAMESPACES = ["--mount", "--pid", "--uts", "--ipc", "--net", "--cgroup"]
 

@@ -4,9 +4,8 @@ of tests/mistakes.py.
 import os
 import re
 
-import ledger
-from booted import ARCHIVE, COPIES, GLIDER, NEWEST, Debian, Done
-from booted import (
+from debian import ARCHIVE, COPIES, NEWEST, Debian, Done
+from debian import (
     alarms,
     copies,
     curl,
@@ -85,19 +84,6 @@ def boots_without_its_disk(debian: Debian) -> None:
     debian.shell(TAKES_OFF_THE_DISK)
 
 
-def forgets_the_line_of_fstab(debian: Debian) -> None:
-    """The disk is no longer mounted, and an older archive below its folder is served: the next copy refuses, and is an
-    alarm."""
-    puts_the_archive_on_a_disk(debian)
-    debian.shell(
-        "sed -i '/srv.media/d' /etc/fstab; systemctl daemon-reload; systemctl stop life.service; "
-        f"umount /var/lib/life; {AGAIN}"
-    )
-    check("the older archive is served", debian.has_all(beginning(debian.ledger, 3)))
-    check("the next copy refuses", debian.run("systemctl", "start", "life-backup.service").returncode != 0)
-    debian.shell(f"{TAKES_OFF_THE_DISK}; {COPY}")
-
-
 def fills_the_disk(debian: Debian) -> None:
     """Deposits are refused, reads are answered, it is an alarm; a restart and a restore do no harm."""
     debian.shell(
@@ -159,27 +145,11 @@ def removes_the_file(debian: Debian) -> None:
     exchanges_the_file(debian, f"rm {ARCHIVE}")
 
 
-def copies_over_the_file(debian: Debian) -> None:
-    exchanges_the_file(debian, f"cp {OLDER_COPY} {ARCHIVE}")
-
-
-def copies_over_the_stopped_file(debian: Debian) -> None:
-    """A copy takes the place of the file while nothing runs, and the log of before stays beside it."""
-    debian.shell(COPY)
-    check("a deposit after the copy", debian.deposit())
-    debian.shell(f"systemctl stop life.service; cp {NEWEST} {ARCHIVE}; {AGAIN}")
-
-
-def loses_the_file(debian: Debian) -> None:
-    """The archive is gone, and systemd has given up: a restore starts the service at once."""
-    debian.shell(
-        f"{COPY}; systemctl stop life.service; mkdir -p /srv/aside; "
-        f"mv {ARCHIVE}* /srv/aside; systemctl start life.service || true"
-    )
-    check("the unit has failed", until(lambda: state(debian) == "failed"))
-    done = debian.run("bash", "-c", f"life-restore {NEWEST}")
-    same(f"a restore after a failure: {done.stdout}{done.stderr}", done.returncode, 0)
-    debian.run("rm", "-r", "/srv/aside")
+def gives_the_file_away(debian: Debian) -> None:
+    """The archive belongs to a number without a name, which the service, in a namespace of users, sees as nobody."""
+    debian.run("bash", "-c", f"systemctl stop life.service; chown 1234 {ARCHIVE}; systemctl start life.service")
+    check("the unit fails", until(lambda: state(debian) == "failed"))
+    debian.shell(f"chown life {ARCHIVE}; {AGAIN}")
 
 
 def breaks_the_file(debian: Debian) -> None:
@@ -287,104 +257,3 @@ def restores_an_older_copy(debian: Debian) -> None:
     )
     owners = debian.run("stat", "-c", "%U %a", ARCHIVE, f"{COPIES}/{copies(debian)[-1]}").stdout
     same(f"all is its user's alone: {owners}", owners, "life 600\nlife 600\n")
-
-
-def restores_another_club(debian: Debian) -> None:
-    """The copy of another club is refused; where it is asked for, the command that goes back is named."""
-    debian.shell(
-        f"{COPY}; printf 'x = 3, y = 3\\nbo$2bo$3o!\\n' | life deposit --db /srv/other.db eve t1; "
-        "chown life: /srv/other.db*"
-    )
-    before = main_process(debian)
-    done = debian.run("life-restore", "--older", "/srv/other.db")
-    check(
-        f"another club's copy is refused: {done.stderr}",
-        done.returncode == 1 and main_process(debian) == before and debian.has_all(),
-    )
-    done = debian.run("life-restore", "--other", "/srv/other.db")
-    check(
-        f"another club's copy, asked for: {done.stdout}{done.stderr}",
-        done.returncode == 0 and debian.has_all({1: ledger.Deposit("eve", "t1", GLIDER.encode())}),
-    )
-    moved = re.search(rf"are in ({COPIES}/\S+):", done.stdout)
-    assert moved is not None
-    debian.shell(f"life-restore --other {way_back(done)}; mv {moved[1]}/*.db {COPIES}")
-
-
-# Files that are no copy, and how each is made.
-NO_COPIES = {
-    "a text": "echo text > /srv/no.db",
-    "an empty file": ": > /srv/no.db",
-    "a missing file": "rm -f /srv/no.db",
-    "a folder": "rm -f /srv/no.db; mkdir /srv/no.db",
-    "another database": (
-        "rmdir /srv/no.db; python3 -c "
-        '\'import sqlite3; sqlite3.connect("/srv/no.db").execute("CREATE TABLE t (n)")\''
-    ),
-    "half a copy": f"head -c 6000 {NEWEST} > /srv/no.db",
-    "a bit that is another one": (
-        f"cp {NEWEST} /srv/no.db; printf x | dd of=/srv/no.db bs=1 seek=9000 conv=notrunc 2> /dev/null"
-    ),
-    "the index": "cp /var/lib/life-index/index.json /srv/no.db 2> /dev/null || echo '{}' > /srv/no.db",
-}
-
-
-def restores_no_copy(debian: Debian) -> None:
-    """A file that is not a copy is refused before anything stops, with one line."""
-    before = main_process(debian)
-    for name, makes in NO_COPIES.items():
-        debian.run("bash", "-c", makes)
-        done = debian.run("life-restore", "--other", "/srv/no.db")
-        check(
-            f"no restore of {name}: {done.returncode} {done.stderr}",
-            done.returncode == 1 and done.stderr.startswith("life-restore: ") and done.stderr.count("\n") == 1,
-        )
-    done = debian.run("life-restore", ARCHIVE)
-    check(
-        f"no restore of the archive itself: {done.stderr}", done.returncode == 1 and "the archive itself" in done.stderr
-    )
-    done = debian.run("life-restore")
-    check(f"no restore of nothing: {done.stderr}", done.returncode == 1 and "nothing was interrupted" in done.stderr)
-    done = debian.run("bash", "-c", f"runuser -u nobody -- /usr/lib/life/life-restore {NEWEST}")
-    check(f"no restore by nobody: {done.stderr}", done.returncode == 1 and "only root and life" in done.stderr)
-    same("nothing was stopped", main_process(debian), before)
-
-
-# Runs a restore that gets a signal once it has said that the service is stopped, and prints its status.
-SIGNALLED = (
-    "life-restore --older {copy} > /tmp/said 2>&1 & restore=$!; "
-    "until grep -q 'is stopped' /tmp/said || ! kill -0 $restore 2> /dev/null; do sleep 0.01; done; "
-    "kill -{name} $restore; wait $restore; echo $?; cat /tmp/said"
-)
-
-
-def interrupts_a_restore(debian: Debian) -> None:
-    """A signal in a restore leaves all as it was, or as the copy is, and the service runs. After a kill this is so
-    after the next command."""
-    debian.shell(
-        f"rm -rf {COPIES}/before-restore-*; mkdir -p /srv/whole; systemctl stop life.service; "
-        f"cp -p {ARCHIVE}* /srv/whole; systemctl start life.service"
-    )
-    older = OLDER_COPY
-    had = rows_of(debian.path(older))
-    for name in ("HUP", "TERM", "INT", "KILL"):
-        done = debian.run("bash", "-c", SIGNALLED.format(copy=older, name=name))
-        if name == "KILL":
-            before = state(debian)
-            again = debian.run("life-restore")
-            check(
-                f"the next command after a kill ({before}): {again.stdout}{again.stderr}",
-                again.returncode == 0 or "nothing was interrupted" in again.stderr,
-            )
-        same(f"the service runs after {name}: {done.stdout}", state(debian), "active")
-        # A signal that comes late finds the copy in its place.
-        there = rows_of(debian.path(ARCHIVE))
-        check(f"the archive is whole after {name}", there in (debian.ledger, had) and debian.has_all(there))
-        left = debian.run("sh", "-c", f"ls -d {ARCHIVE}.exchange 2> /dev/null").stdout
-        same(f"no journal is left after {name}: {left}", left, "")
-        debian.shell(
-            f"systemctl stop life.service; rm -rf {ARCHIVE}* /var/lib/life/before-restore-*; "
-            "cp -p /srv/whole/club.db* /var/lib/life; "
-            f"mv {COPIES}/before-restore-*/*.db {COPIES} 2> /dev/null || true; {AGAIN}"
-        )
-        check(f"all of them again after {name}", state(debian) == "active" and debian.has_all())

@@ -3,13 +3,12 @@ function for the table of tests/mistakes.py.
 """
 import json
 import os
-import re
 import sqlite3
 
 import archives
 import ledger
-from booted import ARCHIVE, COPIES, LATER, LATEST, SETTINGS, SITE, VERSION, Debian
-from booted import (
+from debian import ARCHIVE, COPIES, LATER, LATEST, SETTINGS, SITE, VERSION, Debian
+from debian import (
     change_settings,
     copies,
     curl,
@@ -22,30 +21,12 @@ from booted import (
     until,
 )
 from clients import check, same
-from clubs import SPELLINGS
 from ledger import beginning, rows_of
 from mistakes_files import COPY, DISK, OLDER_COPY, way_back
 
 # ---- settings, packages
 
 BLOCK = b"x = 2, y = 2, rule = B3/S23\n2o$2o!\n"
-
-
-def misspells_the_archive(debian: Debian) -> None:
-    """The settings in twelve spellings: the copy before an upgrade is of the archive that is named."""
-    plain = text_of(debian, SETTINGS)
-    for number, spelling in enumerate(SPELLINGS):
-        lines = re.sub(r"(?m)^ARCHIVE=.*\n", "", plain)
-        with open(debian.path(SETTINGS), "wb") as file:
-            file.write((lines + spelling.format(f"ARCHIVE={ARCHIVE}")).encode("latin-1"))
-        done = debian.run("/usr/lib/life/life-copy", "--before", f"0.0.{number}")
-        check(
-            f"a copy with spelling {spelling!r}: {done.stderr}",
-            done.returncode == 0 and rows_of(debian.path(f"{COPIES}/before-0.0.{number}.db")) == debian.ledger,
-        )
-    with open(debian.path(SETTINGS), "w", encoding="utf-8") as file:
-        file.write(plain)
-    debian.run("bash", "-c", f"rm {COPIES}/before-0.0.*")
 
 
 def is_old(debian: Debian, version: str) -> bool:
@@ -93,7 +74,9 @@ def upgrades(debian: Debian) -> None:
     change_settings(debian, KEEP_MONTHS=11)
     debian.shell(
         f"systemctl stop life-index.timer; sed -i 's/^server {{/&\\n    deny 203.0.113.7; # ours/' {SITE}; "
-        f"printf ' \\r\\n# caf\\351\\n' >> {SETTINGS}; sed -i 's/^ARCHIVE=.*/& /' {SETTINGS}; "
+        f"printf ' \\r\\n# caf\\351\\n' >> {SETTINGS}; sed -i 's/^ARCHIVE=.*/& /; /^COPY_AGE=/d' {SETTINGS}; "
+        # As if the version before had no such setting.
+        "sed /^COPY_AGE=/d /usr/lib/life/settings > /run/life.settings; "
         "printf '[Service]\\nType=oneshot\\nExecStart=/bin/true\\n' > /etc/systemd/system/life-index.service"
     )
     done = installed(debian, LATER)
@@ -122,6 +105,8 @@ def upgrades(debian: Debian) -> None:
     )
     check("numbers continue", until(debian.deposit))
     check("the settings are the administrator's", "KEEP_MONTHS=11" in debian.run("cat", SETTINGS).stdout)
+    new = "These settings are new, and /usr/lib/life/settings explains them: COPY_AGE\n"
+    check(f"the new setting is said, without a question: {done.stdout}", new in done.stdout)
     debian.run("systemctl", "start", "life-index.timer")
 
 

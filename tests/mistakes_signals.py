@@ -6,8 +6,8 @@ import random
 import time
 
 import ledger
-from booted import ARCHIVE, COPIES, GLIDER, LATER, SITE, VERSION, Debian
-from booted import (
+from debian import ARCHIVE, COPIES, GLIDER, KEPT_MONTHS, LATER, LATER_MONTHS, SETTINGS, SITE, VERSION, Debian
+from debian import (
     alarms,
     change_settings,
     configured,
@@ -19,7 +19,7 @@ from booted import (
     until,
 )
 from clients import check, same
-from clubs import STEPPED
+from fake_systemd import STEPPED
 from ledger import Ledger, rows_of
 
 SEED = 20261130
@@ -139,6 +139,9 @@ def interrupts_an_upgrade(debian: Debian) -> None:
     chance, versions, begun = random.Random(SEED), [VERSION, LATER], time.monotonic()
     debian.shell(f"dpkg --install {' '.join(packages_of(VERSION))}")
     usual = time.monotonic() - begun
+    # Nobody has changed the settings.
+    own = text_of(debian, SETTINGS)
+    debian.shell(f"cp /usr/lib/life/settings {SETTINGS}")
     for case in range(UPGRADES):
         versions.reverse()
         debian.shell(f"rm -f {COPIES}/before-*.db")
@@ -168,7 +171,46 @@ def interrupts_an_upgrade(debian: Debian) -> None:
             f"{line}: copies from before: {len(before)}", before != [] and all(rows == debian.ledger for rows in before)
         )
         check(f"{line}: it is served", until(lambda: debian.is_served()) and debian.has_all())
+        wanted = LATER_MONTHS if versions[0] == LATER else KEPT_MONTHS
+        check(f"{line}: the settings are those of the version", wanted in text_of(debian, SETTINGS))
         lies_about(debian, line)
+    debian.shell(f"rm -f {COPIES}/before-*.db; dpkg --install {' '.join(packages_of(VERSION))}")
+    with open(debian.path(SETTINGS), "w", encoding="utf-8") as file:
+        file.write(own)
+    debian.shell("life-configure")
+
+
+# An upgrade that is killed, with all that it runs, while its first script makes the copy; what dpkg says of it then.
+KILLED_AT_ONCE = (
+    "set -m; dpkg --install {files} > /tmp/said 2>&1 & run=$!; "
+    f"until ls -d {COPIES}/.life-copy-* > /dev/null 2>&1 || ! kill -0 $run 2> /dev/null; do :; done; "
+    "kill -KILL -- -$run; wait $run; dpkg --audit"
+)
+KILLS = 10
+
+
+def kills_an_upgrade(debian: Debian) -> None:
+    """dpkg is killed together with the script that makes the copy, before it has unpacked anything. Then the commands
+    of UPGRADING bring the upgrade to its end."""
+    files = " ".join(packages_of(LATER))
+    for _ in range(KILLS):
+        said = debian.run("bash", "-c", KILLED_AT_ONCE.format(files=files)).stdout
+        if "life" in said:
+            break
+        # It was killed before or after that.
+        debian.shell(f"dpkg --configure -a; dpkg --install {' '.join(packages_of(VERSION))}")
+    check(f"dpkg was killed in the middle: {said}", "life" in said)
+    check("the archive is served", until(lambda: debian.is_served()))
+    again = debian.run(
+        "bash", "-c", f"dpkg --configure -a; apt-get install --yes {files} || dpkg --install {files}", timeout=300
+    )
+    version = debian.run("dpkg-query", "-W", "-f", "${Version} ${Status},", "life", "life-gateway").stdout
+    check(
+        f"the upgrade comes to its end: {again.stdout[-300:]}{again.stderr[-300:]}",
+        again.returncode == 0 and version == f"{LATER} install ok installed," * 2,
+    )
+    check("all is there", until(lambda: debian.is_served()) and debian.has_all())
+    lies_about(debian, "a killed upgrade")
     debian.shell(f"rm -f {COPIES}/before-*.db; dpkg --install {' '.join(packages_of(VERSION))}")
 
 

@@ -29,7 +29,7 @@ pytestmark = [pytest.mark.full, pytest.mark.xdist_group("gateway")]
 FIRST_PORT = 9500
 SCRIPTS = os.path.join(DEPLOY, "..", "examples", "scripts")
 # What OPERATING says to set for a class.
-CLASS = ["CENSUSES=60r/m", "CENSUSES_AT_ONCE=30", "DEAR_CONNECTIONS=30"]
+CLASS = ["CENSUSES=60r/m", "CENSUSES_AT_ONCE=30", "SLOW_CONNECTIONS=30"]
 
 
 @pytest.fixture(scope="session")

@@ -20,7 +20,7 @@ import pytest
 import clients
 import machine
 import scripts
-from booted import (
+from debian import (
     ARCHIVE,
     COPIES,
     LATER,
@@ -28,12 +28,13 @@ from booted import (
     SENDMAIL,
     VERSION,
     Debian,
-    Done,
+    Packages,
     alarms,
     configured,
     copies,
     curl,
     installed,
+    main_process,
     over,
     pattern,
     state,
@@ -43,8 +44,10 @@ from booted import (
     until,
 )
 from clients import HERE, certify, check, same
-from mistakes import AFTER_AN_OLDER_COPY, MISTAKES, Elsewhere, Mistake, is_tried, try_mistake
+from mistakes import AFTER_AN_OLDER_COPY, MISTAKES, Mistake, try_mistake
 from mistakes_files import OLDER_COPY
+from walks import drawn
+from debian_walks import WEIGHT_OF, fault_of_walk
 
 pytestmark = pytest.mark.full
 
@@ -53,41 +56,7 @@ TOP = os.path.dirname(HERE)
 TAR = os.environ.get("LIFE_DEBIAN", "")
 
 
-# ---- mistakes that other tests make
-
-
-def named(mistake: Mistake) -> str:
-    return mistake.name
-
-
-@pytest.mark.parametrize("mistake", [one for one in MISTAKES if isinstance(one.done, Elsewhere)], ids=named)
-def test_elsewhere(mistake: Mistake) -> None:
-    """Each mistake that another test makes is made there."""
-    assert isinstance(mistake.done, Elsewhere)
-    check(f"{mistake.name}: {mistake.done}", is_tried(mistake.done, mistake.said))
-
-
-def test_nowhere() -> None:
-    """A function that is not there is seen."""
-    check("a function that is not there is seen", not is_tried(Elsewhere("restores", "no_such_function"), ""))
-
-
 # ---- the machine
-
-
-class Packages:
-    """The packages of three versions in one folder, and the first version once more in another."""
-
-    def __init__(self, room: str) -> None:
-        self.out, self.again = os.path.join(room, "out"), os.path.join(room, "again")
-        self.made: list[tuple[str, Done]] = []
-
-    def make(self, folder: str, version: str) -> str:
-        """Makes the packages of a version; what is said on standard error."""
-        words = [os.path.join(TOP, "deploy", "package"), folder, version]
-        done = subprocess.run(words, capture_output=True, text=True, timeout=300)
-        self.made.append((version, done))
-        return done.stderr
 
 
 def end_tests(number: int, _frame: FrameType | None) -> None:
@@ -117,6 +86,7 @@ def built(room: str) -> Packages:
     built.make(built.again, VERSION)
     for version in (LATER, LATEST):
         built.make(built.out, version)
+    built.change_settings(LATER)
     return built
 
 
@@ -764,11 +734,36 @@ def test_renewal(debian: Debian) -> None:
     )
 
 
+def test_new_proxy(debian: Debian) -> None:
+    """A new version of Debian's HAProxy, whose packages restart only their own service, restarts the gateway's; one
+    that is stopped stays so."""
+    unit, new = (
+        "life-gateway.service",
+        "dpkg-trigger --by-package=haproxy /usr/sbin/haproxy; dpkg --configure --pending",
+    )
+    before = main_process(debian, unit)
+    debian.shell(new)
+    check("the new one runs", until(lambda: main_process(debian, unit) not in (before, "0")))
+    check("it is asked", until(lambda: curl(debian, "/deposits/1?proxy") == ("200", pattern(1))))
+    debian.shell(f"systemctl stop {unit}; {new}")
+    same("a stopped one", state(debian, unit), "inactive")
+    debian.shell(f"systemctl start {unit}")
+
+
+@pytest.mark.usefixtures("first_copy")
+def test_walk(debian: Debian) -> None:
+    """A walk of an administrator, drawn by a seed. The environment's SEED and BOOTED_STEPS make it another one, or
+    longer."""
+    seed, count = int(os.environ.get("SEED", "1")), int(os.environ.get("BOOTED_STEPS", "30"))
+    fault = fault_of_walk(debian, drawn(seed, count, WEIGHT_OF))
+    check(f"a walk of {count} steps by seed {seed}{f': {fault}' if fault else ''}", not fault)
+
+
 # ---- mistakes
 
 
 @pytest.mark.usefixtures("first_copy")
-@pytest.mark.parametrize("mistake", [one for one in MISTAKES if not isinstance(one.done, Elsewhere)], ids=named)
+@pytest.mark.parametrize("mistake", [pytest.param(one, id=one.name) for one in MISTAKES])
 def test_mistake(debian: Debian, mistake: Mistake) -> None:
     """After a mistake nothing is lost, it is said what is wrong, and the archive is served once that was done which is
     said. The last ones remove the packages."""

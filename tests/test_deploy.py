@@ -14,7 +14,7 @@ import tempfile
 import pytest
 
 from clients import GLIDER, HERE, Server, check, deposit, exchanged, message, same
-from clubs import HASH, content, file_of, fill, write
+from fake_systemd import HASH, content, file_of, fill, write
 
 pytestmark = pytest.mark.full
 
@@ -278,6 +278,27 @@ def test_files_of_dpkg(folder: str) -> None:
     same("files of dpkg", [name for name in os.listdir(room) if "dpkg" in name], [])
 
 
+@pytest.mark.parametrize(
+    "name, text, why",
+    [
+        ("earlier", "{% if TLS %}\n@TLS?@    listen 443;\n{% endif %}\n", "is a template of an earlier version"),
+        ("unknown", "listen {{ LISTENS }};\n", "'LISTENS' is undefined"),
+        ("broken", "{% if TLS %}\n", "Unexpected end of template"),
+    ],
+)
+def test_wrong_templates(folder: str, name: str, text: str, why: str) -> None:
+    """A template of another version, which a killed upgrade leaves, or one that can't be filled is refused, and no file
+    is written."""
+    shutil.copytree(os.path.join(TOP, "deploy"), copy := os.path.join(folder, f"with-{name}"))
+    write(os.path.join(copy, "templates", "gateway", name), text)
+    room = os.path.join(folder, f"of-{name}")
+    words = [os.path.join(copy, "configure"), room, "TLS=yes"]
+    done = subprocess.run(words, capture_output=True, text=True, timeout=60, check=False)
+    check(f"{name}: {done.stderr}", done.returncode == 1 and done.stderr.startswith(f"configure: {name}"))
+    check(f"{name}: it is said why", why in done.stderr)
+    check(f"{name}: nothing is written", not os.path.exists(room))
+
+
 def values(unit: str, key: str) -> list[str]:
     with open(unit, encoding="utf-8") as file:
         return [line.partition("=")[2].strip() for line in file if line.startswith(key + "=")]
@@ -359,6 +380,12 @@ def test_stopped_watch(folder: str) -> None:
     same("a signal that ends the watch", values(unit, "SuccessExitStatus"), ["SIGTERM"])
 
 
+def test_endless_index(folder: str) -> None:
+    """An index that takes too long, as if it waited for somebody, is a failure, and so an alarm."""
+    unit = os.path.join(configured(folder), "life-index.service")
+    same("its end", (values(unit, "TimeoutStartSec"), len(values(unit, "OnFailure"))), (["30min"], 1))
+
+
 def test_certificate_checked(folder: str) -> None:
     """Every ten minutes the certificate is checked, if there is TLS, and the folders to which nginx writes, by root."""
     folders = "+/usr/lib/life/life-age --writer www-data /var/cache/life/cache /var/lib/nginx/body /var/lib/nginx/proxy"
@@ -427,8 +454,8 @@ REFUSED = [
     "WATCH_SECONDS=60",
     "QUEUE_TIME=60s",
     "ANSWER_TIME=2m",
-    "DEAR_READS=1",
-    "DEAR_CONNECTIONS=0",
+    "SLOW_READS=1",
+    "SLOW_CONNECTIONS=0",
     "PAGES=",
     "READS_LOGGED=0%",
     "READS_LOGGED=101%",

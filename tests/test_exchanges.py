@@ -14,7 +14,7 @@ import pytest
 
 import archives
 from clients import GLIDER_TEXT, Server, check, deposit, exchanged, run, same
-from clubs import (
+from fake_systemd import (
     FIVE,
     MEMBERS,
     THREE,
@@ -200,22 +200,25 @@ def test_unsound(folder: str) -> None:
     club.systemctl("stop")
 
 
-def overwrite(path: str) -> None:
-    with open(path, "r+b") as file:
+def remove(club: ClubOfFive) -> None:
+    os.remove(club.archive)
+
+
+def overwrite(club: ClubOfFive) -> None:
+    with open(club.archive, "r+b") as file:
         file.write(bytes(20000))
 
 
-@pytest.mark.parametrize(
-    "name, harm", [("removed", os.remove), ("overwritten", overwrite)], ids=["removed", "overwritten"]
-)
-def test_gone_while_served(folder: str, name: str, harm: Callable[[str], None]) -> None:
+@pytest.mark.parametrize("harm", [remove, overwrite])
+def test_gone_while_served(folder: str, harm: Callable[[ClubOfFive], None]) -> None:
     """The archive's file is removed, or something is written over it, while it is served. The newest copy with the log
     that is there has everything that was acknowledged, and a restore says so before numbers are given again."""
+    name = harm.__name__
     club = ClubOfFive(folder, name)
     club.copy()
     newest = club.newest()
     club.deposits("una", "vic")
-    harm(club.archive)
+    harm(club)
     club.deposits("wim")
     answer = club.restore(newest)
     check(
@@ -240,6 +243,22 @@ def test_gone_while_served(folder: str, name: str, harm: Callable[[str], None]) 
         f"{name}: not where the archive can be read",
         is_error("life-restore", club.restore("--with-log", club.newest()), "can be read"),
     )
+    club.systemctl("stop")
+
+
+def test_copied_over(folder: str) -> None:
+    """An older copy is written over the file, by `cp`, while it is served and while it is not: with the log that stays
+    beside it the archive has everything, and a copy that has less is refused."""
+    club = ClubOfFive(folder, "copied-over")
+    club.copy()
+    club.deposits("una")
+    shutil.copyfile(club.older, club.archive)
+    club.deposits("vic")
+    check("a copy with less", is_error("life-restore", club.restore(club.newest()), "lacks deposits 6 to 7", "--older"))
+    club.systemctl("stop")
+    shutil.copyfile(club.oldest, club.archive)
+    club.systemctl("start")
+    check("all is served", club.serves(club.ledger))
     club.systemctl("stop")
 
 
@@ -275,8 +294,19 @@ def test_not_restored(folder: str) -> None:
     whole = content(copy)
     with open(damaged, "wb") as file:
         file.write(whole[:4096] + bytes(len(whole) - 4096))
+    others = {
+        "text.db": b"text\n",
+        "empty.db": b"",
+        "half.db": whole[:6000],
+        "bit.db": whole[:9000] + bytes([whole[9000] ^ 1]) + whole[9001:],
+    }
+    for name, data in others.items():
+        with open(os.path.join(club.room, name), "wb") as file:
+            file.write(data)
+    sqlite3.connect(os.path.join(club.room, "other.db")).execute("CREATE TABLE t (n)").connection.close()
     before = content(club.archive)
     for name, part in (
+        *((os.path.join(club.room, name), "") for name in (*others, "other.db")),
         (os.path.join(club.room, "missing.db"), "is not a file"),
         (club.room, "is not a file"),
         (club.archive, "the archive itself"),

@@ -23,7 +23,7 @@ import pytest
 
 import clients
 import paths
-import strangers
+import abuse
 from clients import GLIDER, Server, check, exchanged, free_port, message, same
 from gateways import BUSY, DEPLOY, Gateway, Reply, address, asked, listed, log, missing, pattern, requests
 
@@ -185,7 +185,7 @@ def test_slow_clients(gateway: Gateway, filled: None) -> None:
 
 def test_half_heads(gateway: Gateway, filled: None) -> None:
     """Some thousand connections of one client with half a head hold nobody up."""
-    with strangers.half_heads(gateway.port, "127.2.0.9", 3400) as held:
+    with abuse.half_heads(gateway.port, "127.2.0.9", 3400) as held:
         slowest, statuses = 0.0, []
         for turn in range(30):
             begun = time.monotonic()
@@ -721,14 +721,14 @@ def test_new_archives(servers: None, folder: str) -> None:
 
 def test_one_network(servers: None, folder: str) -> None:
     """Two hundred addresses of one network of IPv6 are one client, and another network is another one."""
-    strangers.one_network(folder)
+    abuse.one_network(folder)
 
 
 def test_connections(servers: None, folder: str) -> None:
     """With the packet filter's rules, a client has at most 400 connections, and another one is answered."""
-    strangers.connections(folder)
+    abuse.connections(folder)
 
 
 def test_strangers(servers: None, folder: str) -> None:
     """Floods, and honest clients beside requests that take the program long."""
-    strangers.strangers(folder)
+    abuse.strangers(folder)

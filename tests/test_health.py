@@ -20,10 +20,10 @@ from pathlib import Path
 
 import pytest
 
-import clubs
+import fake_systemd
 from archives import new_archive
 from clients import BLOCKS, GLIDER, GLIDER_TEXT, HERE, Server, check, deposit, exchanged, same
-from clubs import HASH
+from fake_systemd import HASH
 from loaded import AGAIN, Loaded, content, write
 
 pytestmark = pytest.mark.full
@@ -278,6 +278,19 @@ def test_nearly_full(folder: str, table: str, values: str) -> None:
         same("nine tenths", place.age(), (1, wanted))
 
 
+@pytest.mark.parametrize("memory, good", [("293M", False), ("1K", False), ("294M", True), ("1G", True), ("1T", True)])
+def test_too_little_memory(folder: str, memory: str, good: bool) -> None:
+    """An archive that LIFE_MEMORY is too little to open is a failure, before the next start is: a million deposits take
+    280 MB, and a tenth more is wanted, 308,000,000 bytes."""
+    place = Place(os.path.join(folder, f"memory-{memory}"))
+    with contextlib.closing(new_archive(place.copied())) as database:
+        database.execute("INSERT INTO deposits VALUES (1000000, 'ann', 't1', 'B3/S23', 5, x'')")
+        database.commit()
+    words = ["--memory", memory, "--root", place.root, place.archive, place.copies, "2h"]
+    said = f"LIFE_MEMORY={memory} is too little to open {place.archive}: 1,000,000 deposits take 294M\n"
+    same(f"with {memory}", script("life-age", *words)[2].endswith(f"; {said}"), not good)
+
+
 def test_certificate(folder: str) -> None:
     """A certificate that expires within two weeks, or can't be read, is a failure. In a chain the server's is first."""
     if not shutil.which("openssl"):
@@ -429,7 +442,7 @@ def test_spellings(program: str, folder: str) -> None:
         f"PROGRAM={program}\nARCHIVE_FOLDER={os.path.dirname(archive)}\nBACKUP_FOLDER={copies}\n"
         f"LIFE_USER={getpass.getuser()}\nMETRICS_FOLDER=\n"
     )
-    for number, spelling in enumerate(clubs.SPELLINGS):
+    for number, spelling in enumerate(fake_systemd.SPELLINGS):
         path = os.path.join(room, f"settings{number}")
         with open(path, "wb") as file:
             file.write((others + spelling.format(f"ARCHIVE={archive}")).encode("latin-1"))
@@ -506,6 +519,20 @@ def test_members(tmp_path: Path, lines: str, said: str) -> None:
     others = [line for line in done.stderr.splitlines() if "can't read it" not in line]
     same("it is done", (done.returncode, done.stdout.startswith("changed: ")), (0, True))
     check(f"what is said: {others}", len(others) == bool(said) and all(said in line for line in others))
+
+
+def test_old_names(folder: str) -> None:
+    """Settings under the names of release 1.1.0 are those under the new ones, and a line says so."""
+    root = Root(os.path.join(folder, "old-names"))
+    path = root.path("etc/life/settings")
+    write(path, "DEAR_READS=7r/s\nDEAR_READS_AT_ONCE=33\nDEAR_CONNECTIONS=9\n")
+    status, out, err = root.configured()
+    names = ("READS", "READS_AT_ONCE", "CONNECTIONS")
+    said = ", ".join(f"DEAR_{name} is SLOW_{name} now" for name in names)
+    same("what is said", (status, err), (0, f"life-configure: {path}: {said}; the old name works, too\n"))
+    site = content(root.path("etc/nginx/sites-available/life"))
+    for part in ("life_client_slow:8m     rate=7r/s;", "life_client_slow burst=33 ", "life_client_slow_at_once 9;"):
+        check(f"the site has {part}", part in site)
 
 
 def test_changed_by_hand(folder: str) -> None:

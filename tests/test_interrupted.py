@@ -13,7 +13,7 @@ from collections.abc import Callable, Iterator, Mapping
 import pytest
 
 from clients import check, same
-from clubs import DEPLOY, FIVE, STEPPED, Club, ClubOfFive, content, is_running, other_disk, until, write
+from fake_systemd import DEPLOY, FIVE, STEPPED, Club, ClubOfFive, content, is_running, other_disk, until, write
 from ledger import rows_of
 
 pytestmark = pytest.mark.full

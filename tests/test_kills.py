@@ -11,7 +11,7 @@ import time
 import pytest
 
 from clients import check, same
-from clubs import (
+from fake_systemd import (
     FIVE,
     MEMBERS,
     THREE,

@@ -16,7 +16,7 @@ import pytest
 
 import clients
 from clients import Server, check, deposit, exchanged, same
-from clubs import (
+from fake_systemd import (
     DEPLOY,
     MEMBERS,
     STAMPED,
@@ -271,6 +271,20 @@ def test_second_place_that_fails(folder: str) -> None:
         "a second place that fails is reported",
         is_error("life-copy", club.copy(), "is good, but", "file") and len(club.files()) >= 1,
     )
+
+
+def test_metrics_that_fail(folder: str) -> None:
+    """If the metrics can't be written, the copy is good and goes to the second place, and the failure is reported."""
+    place = other_disk(folder) if shutil.which("rsync") else None
+    club = Club(folder, "unmeasured", SECOND_PLACE=place or "", METRICS_FOLDER=os.path.join(folder, "no-metrics"))
+    add(club.archive, MEMBERS[:1])
+    try:
+        said = ("is good with 1 deposit, 0 censuses, but ", "/no-metrics/life.prom.new: No such file or directory")
+        check("it is reported", is_error("life-copy", club.copy(), *said))
+        check("the copy is there", b"By ann" in shown(club.newest(), 1))
+        same("it is at the second place", len(os.listdir(place)) if place else 1, 1)
+    finally:
+        shutil.rmtree(place or "", ignore_errors=True)
 
 
 def test_second_place(folder: str) -> None:

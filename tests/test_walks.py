@@ -6,7 +6,7 @@ import os
 import pytest
 
 from clients import check
-from walks import drawn, fault_of, shortened
+from walks import WEIGHT_OF, drawn, fault_of, shortened
 
 pytestmark = [pytest.mark.full, pytest.mark.usefixtures("program")]
 
@@ -17,7 +17,7 @@ TRIES = 12
 
 @pytest.mark.parametrize("seed", range(1, WALKS + 1))
 def test_walk(folder: str, seed: int) -> None:
-    steps = drawn(seed, STEPS)
+    steps = drawn(seed, STEPS, WEIGHT_OF)
     fault = fault_of(folder, f"walk-{seed}", steps)
     if fault:
         number, why = fault

@@ -1,6 +1,6 @@
 """A walk of an administrator over a club: a seed draws commands, mistakes and accidents. After each step, no
 acknowledged deposit is lost unless a command has said so, and what a command says is what is served and what is on the
-disk. After the walk everything works again. systemd is the stand-in of clubs.py.
+disk. After the walk everything works again. systemd is the stand-in of fake_systemd.py.
 """
 import os
 import random
@@ -13,7 +13,7 @@ from typing import NamedTuple
 
 import ledger
 from clients import deposit, exchanged
-from clubs import DEPLOY, Answer, Club, content, deposit_of, file_of, small_disk, write
+from fake_systemd import DEPLOY, Answer, Club, content, deposit_of, file_of, small_disk, write
 from ledger import Ledger, rows_of
 
 SIGNALS = (signal.SIGINT, signal.SIGTERM, signal.SIGHUP, signal.SIGKILL)
@@ -21,6 +21,8 @@ SIGNALS = (signal.SIGINT, signal.SIGTERM, signal.SIGHUP, signal.SIGKILL)
 MOST_DEPOSITS = 30
 # How long after its start a command gets a signal, at the most, in seconds.
 LONGEST_WAIT = 0.8
+# How long a command may take, in seconds, on a machine that does other things too.
+WITHIN = 600
 
 
 class Broken(Exception):
@@ -270,7 +272,7 @@ class Walk:
         process = self.club.begun(name, *words)
         time.sleep(self.chance.random() * LONGEST_WAIT)
         process.send_signal(self.chance.choice(SIGNALS))
-        process.communicate(timeout=120)
+        process.communicate(timeout=WITHIN)
         # A killed command leaves its private folder, which the next one removes once it is old.
         for folder in (self.club.folder, self.club.copies):
             for entry in os.scandir(folder):
@@ -302,7 +304,7 @@ class Walk:
         if not self.is_usable:
             return
         both = [self.club.begun("life-copy") for _ in range(2)]
-        said = [process.communicate(timeout=120)[0] for process in both]
+        said = [process.communicate(timeout=WITHIN)[0] for process in both]
         require(any(process.returncode == 0 for process in both), f"two copies at once: {said}")
         self.copies[self.club.newest()] = self.truth
         self.forget_moved()
@@ -362,13 +364,13 @@ WEIGHTS: dict[Callable[[Walk], None], int] = {
     Walk.does_two_at_once: 2,
 }
 STEPS = {step.__name__: step for step in WEIGHTS}
+WEIGHT_OF = {step.__name__: weight for step, weight in WEIGHTS.items()}
 
 
-def drawn(seed: int, count: int) -> list[Step]:
-    """The steps of a walk."""
+def drawn(seed: int, count: int, weights: dict[str, int]) -> list[Step]:
+    """The steps of a walk, each as often as it weighs."""
     chance = random.Random(seed)
-    names = chance.choices([step.__name__ for step in WEIGHTS], list(WEIGHTS.values()), k=count)
-    return [Step(name, chance.randrange(1 << 30)) for name in names]
+    return [Step(name, chance.randrange(1 << 30)) for name in chance.choices([*weights], [*weights.values()], k=count)]
 
 
 def fault_of(folder: str, name: str, steps: list[Step]) -> tuple[int, str] | None:
@@ -378,11 +380,11 @@ def fault_of(folder: str, name: str, steps: list[Step]) -> tuple[int, str] | Non
         for number, step in enumerate(steps):
             try:
                 walk.do(step)
-            except Broken as broken:
+            except (Broken, subprocess.TimeoutExpired) as broken:
                 return number, str(broken)
         try:
             walk.end()
-        except Broken as broken:
+        except (Broken, subprocess.TimeoutExpired) as broken:
             return len(steps) - 1, f"at the end: {broken}"
         return None
     finally:

@@ -2,6 +2,7 @@
 systemctl.
 """
 import getpass
+import json
 import os
 import random
 import signal
@@ -58,6 +59,7 @@ class Site:
         for number, entry in enumerate(self.entries, 1):
             headers = {"x-member": "ann", "x-token": f"d{number}"}
             same("a deposit", asked(self.port, 7, "POST", "/deposits", entry.file, headers)[0], 201)
+        same("a census", self.asked(f"/deposits/{NUMBER}/censuses/0/4", "POST")[0], 201)
         subprocess.run([os.path.join(folder, "bin", "systemctl"), "start"], check=True, capture_output=True, timeout=60)
 
     def stand_in(self, path: str, text: str) -> None:
@@ -112,6 +114,14 @@ def is_gone(site: Site) -> None:
     same("a number that begins with the same digit", site.asked(f"/deposits/{NUMBER}0")[0], 404)
 
 
+def is_left(site: Site) -> None:
+    """What no step reaches, as OPERATING says: the row in the list, and the censuses."""
+    listed = json.loads(site.asked(f"/deposits/after/{NUMBER - 1}")[1])["deposits"][0]
+    same("its row", [listed[name] for name in ("id", "member", "rule")], [NUMBER, "ann", "B3/S23"])
+    status, body, _ = site.asked("/censuses/1")
+    same("its census", (status, json.loads(body)["deposit"]), (200, NUMBER))
+
+
 def withdrawn_and_back(site: Site) -> None:
     """A deposit is withdrawn by one command, and taken back by another."""
     for path in (f"/deposits/{NUMBER}", f"/deposits/{NUMBER}/at/0", f"/deposits/{NUMBER}/at/00"):
@@ -133,8 +143,13 @@ def withdrawn_and_back(site: Site) -> None:
             "",
         ),
     )
-    check(f"what is not reached: {lines[4:]}", len(lines) == 5 and lines[4].startswith("not reached: "))
+    row = f"its number, member and rule in /deposits/after/{NUMBER - 1}; its censuses"
+    check(
+        f"what is not reached: {lines[4:]}",
+        len(lines) == 5 and lines[4].startswith("not reached: ") and lines[4].endswith(row),
+    )
     is_gone(site)
+    is_left(site)
     check("the cache no longer has it", not site.cached(b"Call 225"))
     same("the title of another", site.title(3), (200, "Call 335 · Deposit 3 · Life archive".encode()))
     same("the list", site.withdraw(), (0, [f"{NUMBER} a telephone number"], ""))

@@ -245,7 +245,7 @@ class Contents(Database):
 
 
 @functools.cache
-def lacking(new: Contents, there: Contents) -> list[str]:
+def missing_rows(new: Contents, there: Contents) -> list[str]:
     """What the existing archive has and the new one lacks: rows, or the first row that is another one. All rows are
     compared, which takes seconds for a million."""
     found = [f"fewer {table}" for table in TABLES if new.counts[table] < there.counts[table]]
@@ -257,9 +257,9 @@ def lacking(new: Contents, there: Contents) -> list[str]:
     return found
 
 
-def lacks(new: Contents, there: Contents) -> str:
+def replacement_fault(new: Contents, there: Contents) -> str:
     """Why a new archive can't replace another one, as a sentence; empty if it can."""
-    found = lacking(new, there)
+    found = missing_rows(new, there)
     return (
         f"{there.name} was kept, with {there.text_with_first()}; {new.name} has {new.text_with_first()}: "
         f"{', '.join(found)}"

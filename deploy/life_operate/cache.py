@@ -8,7 +8,7 @@ import shutil
 from collections.abc import Callable, Iterator
 
 from life_operate.archive import Refused
-from life_operate.identity import call_as
+from life_operate.privileges import call_as
 
 # The content of the cache is first moved here, next to it, because removing it can take long.
 OLD = ".old-"

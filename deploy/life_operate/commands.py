@@ -4,10 +4,10 @@ import subprocess
 import sys
 from collections.abc import Callable
 
-from life_operate import cache, identity
+from life_operate import cache, privileges
 from life_operate.archive import Refused, line_of
 from life_operate.exchange import UNIT
-from life_operate.identity import Action, Helper
+from life_operate.privileges import Action, Helper
 from life_operate.settings import end_if_unusable
 from life_operate.signals import Interrupted, Signals
 
@@ -47,7 +47,7 @@ def actions(folder: str, paths: list[str]) -> dict[str, Action]:
     def file(path: str) -> tuple[str, int | None]:
         if path not in paths:
             raise Refused(f"{path} was not named")
-        return "", identity.open_plain(path)
+        return "", privileges.open_plain(path)
 
     functions = {"look-cache": cache.look, "empty-cache": cache.move_away, "remove-old-cache": cache.remove_old}
     return {"systemctl": systemctl, "open": file} | {
@@ -74,8 +74,8 @@ def run(name: str, path: str, paths: list[str], worker: Worker) -> None:
     """Runs a command with the settings of a file, as the user of the archive, and ends with its status."""
     settings = end_if_unusable(name, path, NEEDED)
     try:
-        user = identity.user_of(settings["LIFE_USER"])
-        status = identity.split(
+        user = privileges.user_of(settings["LIFE_USER"])
+        status = privileges.split(
             user, functools.partial(run_worker, name, settings, worker), actions(settings["WEB_FOLDER"], paths)
         )
     except Refused as fault:

@@ -31,7 +31,7 @@ from life_operate import settings as life_settings
 from life_operate.archive import Refused
 from life_operate.exchange import own_lock
 from life_operate.loading import load
-from life_operate.settings import Wrong
+from life_operate.settings import BadSetting
 from life_operate.signals import Interrupted, Signals, end_by
 from life_operate.templates import GATEWAY, TEMPLATES, filled_templates
 
@@ -165,7 +165,7 @@ def put_checked(root: str, name: str, text: str, replace: bool) -> bool:
     done = subprocess.run(CHECKS[name], capture_output=True, text=True, start_new_session=True, check=False)
     if done.returncode:
         bring_back(path)
-        raise Wrong(f"{path} was not changed: {(done.stderr or done.stdout).strip().splitlines()[0]}")
+        raise BadSetting(f"{path} was not changed: {(done.stderr or done.stdout).strip().splitlines()[0]}")
     os.remove(path + BEFORE)
     return True
 
@@ -183,22 +183,22 @@ def put_all(root: str, settings: dict[str, str], replace: bool, signals: Signals
     return changed
 
 
-def judge(settings: dict[str, str], files_only: bool) -> None:
+def check(settings: dict[str, str], files_only: bool) -> None:
     """Ends if passwords would travel unencrypted, or if nginx can't read them or everybody can. An upgrade, which only
     writes files, reports that and continues. If everybody can read the passwords, it loads the files too: that was so
     before. Times that don't fit together are only reported, since those of release 1.0.0 don't fit, and so are members
     who can't deposit."""
-    judges: list[tuple[Callable[[dict[str, str]], None], bool]] = [
-        (life_settings.judge_passwords, True),
-        (life_settings.judge_reader, True),
-        (life_settings.judge_secrecy, "DPKG_MAINTSCRIPT_NAME" not in os.environ),
-        (life_settings.judge_members, False),
-        (life_settings.judge_times, False),
+    checks: list[tuple[Callable[[dict[str, str]], None], bool]] = [
+        (life_settings.check_passwords, True),
+        (life_settings.check_reader, True),
+        (life_settings.check_secrecy, "DPKG_MAINTSCRIPT_NAME" not in os.environ),
+        (life_settings.check_members, False),
+        (life_settings.check_times, False),
     ]
-    for judged, is_firm in judges:
+    for checked, is_firm in checks:
         try:
-            judged(settings)
-        except Wrong as fault:
+            checked(settings)
+        except BadSetting as fault:
             if is_firm and not files_only:
                 sys.exit(f"life-configure: {fault}")
             print(f"life-configure: {fault}", file=sys.stderr)
@@ -225,12 +225,14 @@ def main() -> None:
     os.umask(0o022)
     path = os.path.join(words.root, life_settings.USUAL.lstrip("/"))
     settings = life_settings.end_if_wrong("life-configure", path)
-    judge(settings, words.files_only)
+    check(settings, words.files_only)
+    if said := life_settings.old_names(path):
+        print(f"life-configure: {said}", file=sys.stderr)
     try:
         signals = Signals()
         with own_lock(os.path.join(words.root, LOCK), WITHIN, "another life-configure is at work"):
             configure(words, settings, signals)
-    except (OSError, Refused, Wrong) as fault:
+    except (OSError, Refused, BadSetting) as fault:
         sys.exit(f"life-configure: {fault}")
     except Interrupted as end:
         print(f"life-configure: {end}; the next life-configure does the rest", file=sys.stderr, flush=True)

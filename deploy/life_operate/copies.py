@@ -34,7 +34,7 @@ import time
 from collections.abc import Callable
 from typing import BinaryIO
 
-from life_operate import commands, identity
+from life_operate import commands, privileges
 from life_operate import settings as life_settings
 from life_operate.archive import (
     STAMP,
@@ -44,7 +44,7 @@ from life_operate.archive import (
     copied_in_time,
     fold,
     has_commit,
-    lacks,
+    replacement_fault,
     line_of,
     locked,
     state_of,
@@ -52,7 +52,7 @@ from life_operate.archive import (
     try_by_program,
 )
 from life_operate.exchange import COPY_WITHIN, folder_lock, new_room, remove_old_rooms, say
-from life_operate.identity import Helper
+from life_operate.privileges import Helper
 from life_operate.signals import ENDING, Interrupted, Signals, end_by, started
 
 # How many characters of a time name its day, and its month.
@@ -63,13 +63,13 @@ TIMES_THE_ROOM = 3
 ENDS_WITHIN = 10
 ROOM = ".life-copy-"
 # A function that refuses a bad new copy. It gets the copy's path and content.
-Judge = Callable[[str, Contents], None]
+Check = Callable[[str, Contents], None]
 
 
 # ---- one copy
 
 
-def held(copy: str) -> BinaryIO:
+def locked_copy(copy: str) -> BinaryIO:
     """Opens the existing copy with a lock that keeps other programs from writing to it."""
     if not (file := locked(copy)):
         raise Refused(f"{copy} was not replaced: a program has it open")
@@ -78,20 +78,20 @@ def held(copy: str) -> BinaryIO:
     return file
 
 
-def put(new: str, found: Contents, copy: str) -> None:
+def replace_copy(new: str, found: Contents, copy: str) -> None:
     """Gives the new copy its name, unless the existing copy has something that it lacks."""
     # The existing copy stays open until the new one has its name: closing it ends the lock.
     with contextlib.ExitStack() as stack:
         if os.path.exists(copy):
-            stack.enter_context(held(copy))
-            if why := lacks(found, Contents(copy, copy)):
+            stack.enter_context(locked_copy(copy))
+            if why := replacement_fault(found, Contents(copy, copy)):
                 raise Refused(why)
         sync(new)
         os.replace(new, copy)
         sync(os.path.dirname(copy))
 
 
-def made(archive: str, copy: str, judge: Judge, signals: Signals) -> Contents:
+def make_copy(archive: str, copy: str, check: Check, signals: Signals) -> Contents:
     """Makes the copy in a folder next to it, and returns its content."""
     if os.path.exists(copy) and os.path.samefile(archive, copy):
         raise Refused(f"{copy} is the archive itself")
@@ -101,8 +101,8 @@ def made(archive: str, copy: str, judge: Judge, signals: Signals) -> Contents:
         copied_in_time(archive, new)
         fold(new, archive)
         found = Contents(new, archive)
-        judge(new, found)
-        put(new, found, copy)
+        check(new, found)
+        replace_copy(new, found, copy)
         return found
 
 
@@ -146,20 +146,20 @@ def look_for_room(archive: str, folder: str) -> None:
         raise Refused(f"{folder} has room for {free:,} bytes, but a copy needs {wanted:,}")
 
 
-def judge_by(program: str, before: list[Contents]) -> Judge:
+def check_by(program: str, before: list[Contents]) -> Check:
     """The requirements of a club's new copy: it has no less than these, and the program opens it and finds every row
     sound."""
 
-    def judge(new: str, found: Contents) -> None:
+    def check(new: str, found: Contents) -> None:
         for there in before:
-            if why := lacks(found, there):
+            if why := replacement_fault(found, there):
                 raise Refused(why)
         trial = new + ".trial"
         shutil.copyfile(new, trial)
         if wrong := try_by_program(program, trial, found):
             raise Refused(f"{found.name} is not sound: {wrong}")
 
-    return judge
+    return check
 
 
 def send(copy: str, place: str) -> None:
@@ -201,10 +201,14 @@ def write_metrics(folder: str, copy: str, found: Contents, signals: Signals) -> 
     with contextlib.suppress(FileNotFoundError):
         os.remove(path + ".new")
     with signals.held_back():
-        with open(path + ".new", "x", encoding="utf-8") as file:
-            os.fchmod(file.fileno(), 0o644)
-            file.write(text)
-        os.replace(path + ".new", path)
+        try:
+            with open(path + ".new", "x", encoding="utf-8") as file:
+                os.fchmod(file.fileno(), 0o644)
+                file.write(text)
+            os.replace(path + ".new", path)
+        finally:
+            with contextlib.suppress(FileNotFoundError):
+                os.remove(path + ".new")
     signals.check()
 
 
@@ -217,19 +221,23 @@ def club_copy(settings: dict[str, str], signals: Signals) -> str:
         # A copy with a time in the future is older than its name says, so it does not count as the newest one.
         found_before = [copies.newest_good(stamps) for stamps in (copies.future(), copies.past())]
         copy = copies.path(datetime.datetime.now(datetime.timezone.utc).strftime(STAMP))
-        found = made(
-            archive, copy, judge_by(settings["PROGRAM"], [before for before, _ in found_before if before]), signals
+        found = make_copy(
+            archive, copy, check_by(settings["PROGRAM"], [before for before, _ in found_before if before]), signals
         )
         remove_old(
             Copies(archive, folder),
             copy,
             [int(settings[name]) for name in ("KEEP_QUARTERS", "KEEP_DAYS", "KEEP_MONTHS")],
         )
+    faults = [fault for _, faults in found_before for fault in faults]
     if settings["METRICS_FOLDER"]:
-        write_metrics(settings["METRICS_FOLDER"], copy, found, signals)
+        try:
+            write_metrics(settings["METRICS_FOLDER"], copy, found, signals)
+        except OSError as fault:
+            faults.append(line_of(fault))
     if settings["SECOND_PLACE"]:
         send(copy, settings["SECOND_PLACE"])
-    if faults := [fault for _, faults in found_before for fault in faults]:
+    if faults:
         raise Refused(f"{copy} is good with {found.text()}, but {faults[0]}")
     return "\n".join(
         [
@@ -257,7 +265,7 @@ def before_upgrade(settings: dict[str, str], version: str, signals: Signals) -> 
 
 
 def one_copy(archive: str, copy: str, signals: Signals) -> str:
-    return f"{copy}: {made(archive, copy, lambda new, found: None, signals).text()}"
+    return f"{copy}: {make_copy(archive, copy, lambda new, found: None, signals).text()}"
 
 
 # ---- rights
@@ -266,7 +274,7 @@ def one_copy(archive: str, copy: str, signals: Signals) -> str:
 def give_up_rights(owner: pwd.struct_passwd) -> None:
     """Does the work as the owner of the folder, if root runs it."""
     if os.geteuid() == 0 and owner.pw_uid != 0:
-        identity.become(owner)
+        privileges.become(owner)
 
 
 def owner_of_folder(path: str) -> pwd.struct_passwd:
@@ -301,7 +309,7 @@ class OwnFolder:
         """The copy that is there, to be compared with the new one."""
         if not os.path.exists(self.copy):
             return "", None
-        file, self.before = held(self.copy), state_of(self.copy)
+        file, self.before = locked_copy(self.copy), state_of(self.copy)
         number = os.dup(file.fileno())
         file.close()
         return "", number
@@ -311,9 +319,9 @@ class OwnFolder:
         self.room = tempfile.mkdtemp(prefix=ROOM, dir=os.path.dirname(self.copy))
         return "", os.open(os.path.join(self.room, "new.db"), os.O_WRONLY | os.O_CREAT | os.O_EXCL, 0o600)
 
-    def put(self) -> tuple[str, int | None]:
+    def finish(self) -> tuple[str, int | None]:
         # The lock ends with the function, so nobody begins to write to what is replaced.
-        holding = held(self.copy) if os.path.exists(self.copy) else None
+        holding = locked_copy(self.copy) if os.path.exists(self.copy) else None
         if (state_of(self.copy) if holding else None) != self.before:
             raise Refused(f"{self.copy} has changed meanwhile")
         new = os.path.join(self.room, "new.db")
@@ -339,13 +347,13 @@ def copy_for_root(archive: str, copy: str, helper: Helper, signals: Signals) -> 
         if (number := helper.file("there")) is not None:
             with os.fdopen(number, "rb") as file, open(there, "xb") as out:
                 shutil.copyfileobj(file, out, 1 << 20)
-            if why := lacks(found, Contents(there, copy)):
+            if why := replacement_fault(found, Contents(there, copy)):
                 raise Refused(why)
         place = helper.file("begin")
         assert place is not None, "a new file"
         with os.fdopen(place, "wb") as out, open(new, "rb") as file:
             shutil.copyfileobj(file, out, 1 << 20)
-        helper.ask("put")
+        helper.ask("finish")
     say(f"{copy}: {found.text()}")
 
 
@@ -360,7 +368,9 @@ def done_for_root(owner: pwd.struct_passwd, archive: str, copy: str) -> None:
         lambda _, helper, signals: copy_for_root(archive, folder.copy, helper, signals),
     )
     try:
-        status = identity.split(owner, worker, {"there": folder.there, "begin": folder.begin, "put": folder.put})
+        status = privileges.split(
+            owner, worker, {"there": folder.there, "begin": folder.begin, "finish": folder.finish}
+        )
     finally:
         folder.end()
     for number in ENDING:
@@ -378,7 +388,7 @@ def done(words: argparse.Namespace, signals: Signals) -> str:
     settings = life_settings.end_if_wrong("life-copy", words.settings)
     # rsync needs a current folder that its user may read.
     os.chdir("/")
-    give_up_rights(identity.user_of(settings["LIFE_USER"]))
+    give_up_rights(privileges.user_of(settings["LIFE_USER"]))
     return before_upgrade(settings, words.before, signals) if words.before else club_copy(settings, signals)
 
 

@@ -20,7 +20,7 @@ import time
 from collections.abc import Callable, Iterator
 
 from life_operate.archive import Refused, line_of, locked, sync
-from life_operate.identity import Gone, Helper
+from life_operate.privileges import Gone, Helper
 from life_operate.signals import Signals
 
 UNIT = "life.service"
@@ -160,7 +160,7 @@ class Plan:
             (os.path.join(self.copies, name), os.path.join(self.copies, self.aside, name)) for name in self.newer
         ]
 
-    def is_put(self) -> bool:
+    def is_named(self) -> bool:
         """Whether the new file has the archive's name."""
         return os.path.exists(self.archive) and os.stat(self.archive).st_ino == self.inode
 
@@ -232,7 +232,7 @@ class Exchange:
             if os.path.isdir(folder):
                 sync(folder)
 
-    def put(self) -> None:
+    def give_name(self) -> None:
         """Gives the new file the archive's name, which must be free, like that of its log."""
         for path in (self.plan.archive, self.plan.archive + "-wal"):
             if os.path.lexists(path):
@@ -285,12 +285,12 @@ class Exchange:
         self.plan.ran = self.plan.serves and self.helper.ask("systemctl", "is-active") == "yes"
         write_journal(self.plan)
         try:
-            self.until_put(signals, look_again)
+            self.until_named(signals, look_again)
         except BaseException as fault:
             self.undo_and_report(fault)
             raise
 
-    def until_put(self, signals: Signals, look_again: Callable[[], bool]) -> None:
+    def until_named(self, signals: Signals, look_again: Callable[[], bool]) -> None:
         self.stop()
         signals.check()
         if look_again():
@@ -305,7 +305,7 @@ class Exchange:
             signals.check()
             say(f"nginx's cache was emptied: {self.helper.ask('empty-cache')} folders")
             signals.check()
-            self.put()
+            self.give_name()
         finally:
             if held:
                 held.close()
@@ -340,10 +340,10 @@ def end_interrupted(archive: str, helper: Helper, signals: Signals) -> bool:
 
 
 def end_plan(plan: Plan, helper: Helper) -> None:
-    exchange, put = Exchange(plan, helper), plan.is_put()
-    say(f"'{plan.command}' was interrupted, and is {'finished' if put else 'undone'}")
+    exchange, is_named = Exchange(plan, helper), plan.is_named()
+    say(f"'{plan.command}' was interrupted, and is {'finished' if is_named else 'undone'}")
     try:
-        exchange.finish() if put else exchange.undo()
+        exchange.finish() if is_named else exchange.undo()
     except Gone:
         raise
     except Refused as fault:

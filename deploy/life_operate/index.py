@@ -45,7 +45,7 @@ from xml.sax.saxutils import escape
 
 from life_operate.archive import Copies, Refused, sync
 from life_operate.exchange import own_lock
-from life_operate.settings import Wrong
+from life_operate.settings import BadSetting
 from life_operate.withdrawals import reasons_in
 
 VERSION = 1
@@ -290,7 +290,7 @@ class Folder:
         sync(path + ".new")
         os.replace(path + ".new", path)
 
-    def put(self, kind: str, block: dict[str, Any]) -> str:
+    def write_block(self, kind: str, block: dict[str, Any]) -> str:
         """Writes a block unless it exists, and returns its name."""
         content = json_of(block)
         name = f"{kind}-{block['first']}-{hashlib.sha256(content).hexdigest()[:16]}.json"
@@ -479,11 +479,11 @@ def names_of(kind: str, archive: Archive, folder: Folder, digests: list[str]) ->
         block = getattr(archive, kind)(1 + place * BLOCK)
         if kind in COMPARED:
             block["seen"] = days_of(kind, folder.block(kind, place), block)
-        names.append(folder.put(kind, block))
+        names.append(folder.write_block(kind, block))
     return names
 
 
-def made(words: argparse.Namespace) -> str:
+def make_index(words: argparse.Namespace) -> str:
     """Builds the index, and returns a description of it."""
     withdrawn = reasons_in(words.withdrawn) if words.withdrawn else {}
     archive, folder = Archive(newest(words.copy, words.archive), withdrawn), Folder(words.folder)
@@ -525,6 +525,6 @@ def main() -> None:
     parser.add_argument("folder", metavar="FOLDER")
     words = parser.parse_args()
     try:
-        print(f"{words.folder}: {made(words)}")
-    except (OSError, Refused, Wrong) as fault:
+        print(f"{words.folder}: {make_index(words)}")
+    except (OSError, Refused, BadSetting) as fault:
         sys.exit(f"life-index: {line_of(fault)}")

@@ -9,7 +9,7 @@ import sys
 import time
 from collections.abc import Iterator
 
-from life_operate.settings import Wrong
+from life_operate.settings import BadSetting
 
 UNITS = (
     "life.service",
@@ -41,7 +41,7 @@ def systemctl(*words: str) -> None:
     print("systemctl " + " ".join(words), flush=True)
     # A session of its own keeps a Ctrl-C away: what has begun ends.
     if subprocess.run(["systemctl", *words], stdin=subprocess.DEVNULL, start_new_session=True, check=False).returncode:
-        raise Wrong(f"systemctl {' '.join(words)} failed")
+        raise BadSetting(f"systemctl {' '.join(words)} failed")
 
 
 def shown(unit: str, name: str) -> str:
@@ -138,7 +138,7 @@ def configuration() -> bytes:
     if done.returncode:
         said = done.stderr.decode(errors="replace").strip()
         why = re.search(r"\[emerg\] (?:[0-9#]+: )?(.+)", said)
-        raise Wrong(f"nginx was not reloaded, since it refuses its files: {why[1] if why else said}")
+        raise BadSetting(f"nginx was not reloaded, since it refuses its files: {why[1] if why else said}")
     return done.stdout
 
 
@@ -196,7 +196,7 @@ def load_nginx(settings: dict[str, str], site: str) -> None:
     until = time.monotonic() + TAKEN_WITHIN
     while workers() & before or not is_served():
         if time.monotonic() > until:
-            raise Wrong(
+            raise BadSetting(
                 "nginx keeps the old site; its error log says why. To load the new one: systemctl restart nginx.service"
             )
         time.sleep(0.2)

@@ -14,7 +14,7 @@ import os
 from life_operate import commands, exchange
 from life_operate.archive import Copies, Refused, made_by_program, sync
 from life_operate.exchange import say
-from life_operate.identity import Helper
+from life_operate.privileges import Helper
 from life_operate.settings import USUAL
 from life_operate.signals import Signals
 

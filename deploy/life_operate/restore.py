@@ -28,8 +28,8 @@ from typing import BinaryIO
 from life_operate import commands, exchange
 from life_operate.archive import LEAST_COMMIT, Contents, Refused, answered, begin_of, fold, has_commit, line_of, sync
 from life_operate.exchange import UNIT, say
-from life_operate.identity import Helper
-from life_operate.known import (
+from life_operate.privileges import Helper
+from life_operate.losses import (
     RESTORE,
     CurrentArchive,
     copies_with_more,
@@ -96,7 +96,7 @@ class Source:
                 "a copy with a log must be in a folder before-.."
             )
 
-    def put(self, new: str) -> None:
+    def copy_to(self, new: str) -> None:
         """Copies the file and its log, and merges them into one file."""
         for file, path in ((self.file, new), (self.log, new + "-wal")):
             if file:
@@ -141,7 +141,7 @@ class Restore:
         self.look_for_room()
         self.helper.ask("look-cache")
         self.new = os.path.join(room, "new.db")
-        self.source.put(self.new)
+        self.source.copy_to(self.new)
         name = self.words.copy
         if self.words.with_log:
             self.with_log(room)
@@ -167,7 +167,7 @@ class Restore:
         if os.path.exists(self.new):
             os.rename(self.new, plain)
         else:
-            self.source.put(plain)
+            self.source.copy_to(plain)
         self.found = join(plain, self.archive, joined, f"{self.words.copy} with the log that is there")
         os.rename(joined, self.new)
         self.found = Contents(self.new, self.found.name)

@@ -58,16 +58,16 @@ FORMS = {
     "FRONT_HEADER": (r"[A-Za-z][A-Za-z0-9-]*", "the name of a header such as X-Forwarded-For"),
     "PAGES": RATE,
     "READS": RATE,
-    "DEAR_READS": RATE,
+    "SLOW_READS": RATE,
     "DEPOSITS": RATE,
     "CENSUSES": RATE,
     "PAGES_AT_ONCE": COUNT,
     "READS_AT_ONCE": COUNT,
-    "DEAR_READS_AT_ONCE": COUNT,
+    "SLOW_READS_AT_ONCE": COUNT,
     "DEPOSITS_AT_ONCE": COUNT,
     "CENSUSES_AT_ONCE": COUNT,
     "CONNECTIONS": COUNT,
-    "DEAR_CONNECTIONS": COUNT,
+    "SLOW_CONNECTIONS": COUNT,
     "READS_LOGGED": (r"100%|(?!0(\.0+)?%)[1-9]?[0-9](\.[0-9]{1,2})?%", "a percentage above 0% such as 5%"),
     "CACHE_FREE": (r"[1-9][0-9]{0,8}[kKmMgG]", "a size such as 1g"),
     "QUEUE_TIME": TIME,
@@ -94,12 +94,14 @@ FORMS = {
     ),
     "ALARM_TO": (r"[A-Za-z0-9_.@+-]+", "a mail address"),
 }
+# Release 1.1.0 wrote DEAR_READS, DEAR_READS_AT_ONCE and DEAR_CONNECTIONS.
+OLD, NEW = "DEAR_", "SLOW_"
 # How many lines of a members file are named.
 MOST_FAULTS = 3
 SECONDS = {"ms": 0.001, "s": 1, "m": 60, "h": 3600}
 
 
-class Wrong(Exception):
+class BadSetting(Exception):
     """A problem of the settings, as a sentence."""
 
 
@@ -115,29 +117,42 @@ def lines_of(path: str) -> list[tuple[str, str]]:
 
 
 def taken(lines: Iterable[tuple[str, str]], known: Container[str]) -> dict[str, str]:
-    """The settings in these lines. Each line comes with a text to put before its error. `known` has the names of all
-    settings."""
+    """The settings in these lines, under their new names. Each line comes with a text to put before its error. `known`
+    has the names of all settings."""
     settings = {}
     for place, line in lines:
         found = LINE.fullmatch(line)
         if not found:
-            raise Wrong(f"{place}not a setting: {line}")
-        if found[1] not in known:
-            raise Wrong(f"{place}no such setting: {found[1]}")
-        settings[found[1]] = found[2].strip()
+            raise BadSetting(f"{place}not a setting: {line}")
+        name = found[1].replace(OLD, NEW)
+        if name not in known:
+            raise BadSetting(f"{place}no such setting: {found[1]}")
+        settings[name] = found[2].strip()
     return settings
 
 
-def judged(name: str, value: str) -> None:
+def old_names(path: str) -> str:
+    """Which settings of a file have another name now, as a sentence; empty if none has."""
+    names = [line.partition("=")[0] for _, line in lines_of(path) if line.startswith(OLD)]
+    changed = ", ".join(f"{name} is {name.replace(OLD, NEW)} now" for name in names)
+    return f"{path}: {changed}; the old name works, too" if changed else ""
+
+
+def check_one(name: str, value: str) -> None:
     form, words = FORMS[name]
     port = re.search(r"[0-9]+$", value) if name.endswith("PORT") or name.startswith(("LISTEN", "REDIRECT")) else None
     if not re.fullmatch(form, value) or (port and int(port[0]) > 65535):
-        raise Wrong(f"{name}={value}: it has to be {words}")
+        raise BadSetting(f"{name}={value}: it has to be {words}")
 
 
 def seconds(value: str) -> float:
     number, unit = re.split(r"(?<=[0-9])(?=[a-z])", value)
     return int(number) * SECONDS[unit]
+
+
+def mebibytes(value: str) -> float:
+    """An amount of memory, as systemd reads it."""
+    return int(value[:-1]) * 1024.0 ** ("KMGT".index(value[-1]) - 1)
 
 
 def is_calendar(value: str) -> bool:
@@ -150,24 +165,24 @@ def is_calendar(value: str) -> bool:
     )
 
 
-def judge_passwords(settings: dict[str, str]) -> None:
+def check_passwords(settings: dict[str, str]) -> None:
     """Refuses a gateway that sends passwords unencrypted. Copies and restores don't check this."""
     if settings["MEMBERS_FILE"] and settings["TLS"] == "no" and not is_here_alone(settings):
-        raise Wrong(
+        raise BadSetting(
             "MEMBERS_FILE needs TLS=yes, or LISTEN and LISTEN_ALSO only on 127.0.0.1 and [::1]: "
             "otherwise passwords travel unencrypted"
         )
 
 
-def judge_times(settings: dict[str, str]) -> None:
+def check_times(settings: dict[str, str]) -> None:
     """Refuses times with which a waiting request would expire before the one ahead of it, or the program would be
     stopped while somebody still waits for its answer."""
     queue, answer = seconds(settings["QUEUE_TIME"]), seconds(settings["ANSWER_TIME"])
     if seconds(settings["WEB_TIME"]) <= queue + answer:
-        raise Wrong("WEB_TIME has to be longer than QUEUE_TIME and ANSWER_TIME together")
+        raise BadSetting("WEB_TIME has to be longer than QUEUE_TIME and ANSWER_TIME together")
     for name, value in (("QUEUE_TIME", queue), ("WATCH_SECONDS", int(settings["WATCH_SECONDS"]))):
         if value <= answer:
-            raise Wrong(f"{name} has to be longer than ANSWER_TIME")
+            raise BadSetting(f"{name} has to be longer than ANSWER_TIME")
 
 
 def is_here_alone(settings: dict[str, str]) -> bool:
@@ -175,19 +190,19 @@ def is_here_alone(settings: dict[str, str]) -> bool:
     return all(re.match(r"127\.|localhost:|\[::1\]:|$", settings[name]) for name in ("LISTEN", "LISTEN_ALSO"))
 
 
-def judge_reader(settings: dict[str, str], user: str = "www-data") -> None:
+def check_reader(settings: dict[str, str], user: str = "www-data") -> None:
     """Refuses a members file that nginx, running as this user, can't read. Only root can check that, and only if the
     user exists."""
     path = settings["MEMBERS_FILE"]
     if path and can(user, "-r", path) is False:
-        raise Wrong(f"MEMBERS_FILE={path}: {user} can't read it: chown root:{user}, chmod 640")
+        raise BadSetting(f"MEMBERS_FILE={path}: {user} can't read it: chown root:{user}, chmod 640")
 
 
-def judge_secrecy(settings: dict[str, str]) -> None:
+def check_secrecy(settings: dict[str, str]) -> None:
     """Refuses a members file that every user of this machine can read: hashes can be guessed."""
     path = settings["MEMBERS_FILE"]
     if path and can("nobody", "-r", path):
-        raise Wrong(f"MEMBERS_FILE={path}: every user of this machine can read it: chown root:www-data, chmod 640")
+        raise BadSetting(f"MEMBERS_FILE={path}: every user of this machine can read it: chown root:www-data, chmod 640")
 
 
 # The names that the program accepts, and the forms of hashes that nginx and Debian's crypt(3) know.
@@ -195,7 +210,7 @@ MEMBER = re.compile(r"[a-z0-9-]{1,32}")
 HASH = re.compile(r"\$(1|2[abxy]|5|6|7|apr1|gy|y)\$.+|\{(PLAIN|SHA|SSHA)\}.+|[./0-9A-Za-z]{13}")
 
 
-def judge_members(settings: dict[str, str]) -> None:
+def check_members(settings: dict[str, str]) -> None:
     """Refuses a members file with lines that let nobody deposit. Whoever can't read the file says nothing."""
     path = settings["MEMBERS_FILE"]
     try:
@@ -207,7 +222,7 @@ def judge_members(settings: dict[str, str]) -> None:
         faults = [f"MEMBERS_FILE={path}: it has no members, so nobody can deposit"]
     if faults:
         more = f"; and {len(faults) - MOST_FAULTS} more" if len(faults) > MOST_FAULTS else ""
-        raise Wrong("; ".join(faults[:MOST_FAULTS]) + more)
+        raise BadSetting("; ".join(faults[:MOST_FAULTS]) + more)
 
 
 def fault_of_member(line: str) -> str:
@@ -233,18 +248,18 @@ def can(user: str, what: str, path: str) -> bool | None:
     return done.returncode == 0
 
 
-def judge(settings: dict[str, str]) -> None:
+def check_all(settings: dict[str, str]) -> None:
     """Refuses invalid values, and values that don't fit together."""
     for name, value in settings.items():
-        judged(name, value)
+        check_one(name, value)
     ports = [settings[name] for name in ("LIFE_PORT", "PROXY_PORT", "METRICS_PORT")]
     if len(set(ports)) < len(ports):
-        raise Wrong("two of LIFE_PORT, PROXY_PORT and METRICS_PORT are the same port")
+        raise BadSetting("two of LIFE_PORT, PROXY_PORT and METRICS_PORT are the same port")
     if os.path.dirname(settings["ARCHIVE"]) != settings["ARCHIVE_FOLDER"].rstrip("/"):
-        raise Wrong("ARCHIVE is not in ARCHIVE_FOLDER")
+        raise BadSetting("ARCHIVE is not in ARCHIVE_FOLDER")
     for name in ("BACKUP_TIMES", "INDEX_TIMES"):
         if not is_calendar(settings[name]):
-            raise Wrong(f"{name}={settings[name]}: it has to be {CALENDAR[1]}")
+            raise BadSetting(f"{name}={settings[name]}: it has to be {CALENDAR[1]}")
 
 
 def settings_of(path: str | None, words: Iterable[str] = ()) -> dict[str, str]:
@@ -254,7 +269,7 @@ def settings_of(path: str | None, words: Iterable[str] = ()) -> dict[str, str]:
     if path:
         settings.update(taken(lines_of(path), settings))
     settings.update(taken((("", word) for word in words), settings))
-    judge(settings)
+    check_all(settings)
     return settings
 
 
@@ -265,10 +280,10 @@ def needed_of(path: str, names: Iterable[str]) -> tuple[dict[str, str], list[str
     for place, line in lines_of(path):
         try:
             settings.update(taken([(place, line)], settings))
-        except Wrong as fault:
+        except BadSetting as fault:
             faults.append(str(fault))
     for name in names:
-        judged(name, settings[name])
+        check_one(name, settings[name])
     return {name: settings[name] for name in names}, faults
 
 
@@ -276,7 +291,7 @@ def end_if_wrong(name: str, path: str) -> dict[str, str]:
     """The settings of a file. If there is an error, ends the script, which has this name, with a line about it."""
     try:
         return settings_of(path)
-    except (OSError, Wrong) as fault:
+    except (OSError, BadSetting) as fault:
         sys.exit(f"{name}: {fault}")
 
 
@@ -284,7 +299,7 @@ def end_if_unusable(name: str, path: str, needed: Iterable[str]) -> dict[str, st
     """The settings that an emergency command needs. Errors in other lines are printed and ignored."""
     try:
         settings, faults = needed_of(path, needed)
-    except (OSError, Wrong) as fault:
+    except (OSError, BadSetting) as fault:
         sys.exit(f"{name}: {fault}")
     for wrong in faults:
         print(f"{name}: ignored: {wrong}", file=sys.stderr)

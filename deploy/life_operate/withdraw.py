@@ -22,9 +22,9 @@ from collections.abc import Callable
 from life_operate import cache
 from life_operate.archive import NoAnswer, Refused, answered, line_of
 from life_operate.exchange import own_lock, say
-from life_operate.identity import user_of
+from life_operate.privileges import user_of
 from life_operate.loading import answer_of_nginx, shown
-from life_operate.settings import USUAL, Wrong, end_if_unusable
+from life_operate.settings import USUAL, BadSetting, end_if_unusable
 from life_operate.signals import Interrupted, Signals, end_by
 from life_operate.withdrawals import change, reasons_in
 
@@ -170,7 +170,7 @@ def main() -> None:
         signals = Signals()
         with own_lock(settings["WITHDRAWN"] + ".lock", WITHIN, f"another {NAME} is at work"):
             sys.exit(0 if withdraw(settings, words, signals) else 1)
-    except (OSError, Refused, Wrong) as fault:
+    except (OSError, Refused, BadSetting) as fault:
         sys.exit(f"{NAME}: {line_of(fault)}")
     except Interrupted as end:
         print(f"{NAME}: {end}; the same command does the rest", file=sys.stderr, flush=True)

@@ -5,7 +5,7 @@ import os
 import re
 
 from life_operate.archive import sync
-from life_operate.settings import Wrong, lines_of
+from life_operate.settings import BadSetting, lines_of
 
 LINE = re.compile(r"0*([1-9][0-9]{0,14})(?:\s+(.*))?")
 
@@ -20,7 +20,7 @@ def reasons_in(path: str) -> dict[int, str]:
     for place, line in lines:
         matched = LINE.fullmatch(line.strip())
         if not matched:
-            raise Wrong(f"{place}not the number of a deposit, with or without a reason: {line}")
+            raise BadSetting(f"{place}not the number of a deposit, with or without a reason: {line}")
         found[int(matched[1])] = matched[2] or ""
     return found
 

@@ -73,7 +73,7 @@ def read_addresses(read: Read) -> List[Address]:
 
 def location_of(site: str, path: str) -> str:
     """The location that nginx chooses for a path: an exact one, or else the first match."""
-    locations = re.findall(r"(?ms)^(?:@[A-Z_]+\?@)* {4}location (=|~) (\S+) \{$(.*?)^(?:@[A-Z_]+\?@)* {4}\}$", site)
+    locations = re.findall(r"(?ms)^ {4}location (=|~) (\S+) \{$(.*?)^ {4}\}$", site)
     # Python writes named groups differently.
     forms = [(re.sub(r"\(\?<(\w)", r"(?P<\1", form), body) for kind, form, body in locations if kind == "~"]
     fitting: List[str] = [body for kind, form, body in locations if kind == "=" and form == path]
@@ -94,7 +94,7 @@ def compare(routes: List[Route], program: Program, read: Read) -> Iterator[Optio
         found = page[1] if page else ""
         kept = f"{SITE}: replies of {route.path} are kept as '{found}', and as '{route.cache}' in {ROUTES}"
         yield None if found == route.cache else kept
-        cost = "slow" if "life_client_slow_at_once" in location else "quick"
+        cost = "slow" if re.search(r"life_client_slow_at_once|\{\{ slow \}\}", location) else "quick"
         limited = f"{SITE}: {route.path} has the limits of {cost} routes, and is {route.cost} in {ROUTES}"
         yield None if cost == route.cost else limited
 
@@ -163,12 +163,17 @@ def site_location(routes: List[Route], cache: str, cost: str) -> List[str]:
     return [f"    location ~ ^/({'|'.join(paths)})$ {{"]
 
 
+def in_condition(setting: str, line: str) -> List[str]:
+    """A line of a template that it has only with this setting."""
+    return [f"{{% if {setting} %}}", line, "{% endif %}"]
+
+
 def site_realm(routes: List[Route]) -> List[str]:
     """The map that has the routes on which a long search needs a password. They end in the limit."""
     known = reading(routes, "slow")
     paths = [re.sub(r"/\{limit\}$", "", route.path[1:]) for route in known if route.path.endswith("/{limit}")]
     forms = "|".join(expression(path, {**IN_ROUTES, "code": PART}) for path in paths)
-    return [f'@MEMBERS_FILE?@map $life_path $life_realm {{ default off; "~^/({forms})/{LONG}$" club; }}']
+    return in_condition("MEMBERS_FILE", f'map $life_path $life_realm {{ default off; "~^/({forms})/{LONG}$" club; }}')
 
 
 def proxy_slow(routes: List[Route]) -> List[str]:
@@ -191,7 +196,7 @@ def proxy_slow(routes: List[Route]) -> List[str]:
 def site_pages(addresses: List[Address], limits: Limits) -> List[str]:
     """The location of the pages. One page is at all their addresses, with a slash at the end too."""
     paths = [expression(one.path[1:], in_addresses(limits)) for one in addresses if one.path != "/"]
-    return [f'@PAGES_FOLDER?@    location ~* "^/({"|".join(paths)})?/?$" {{']
+    return in_condition("PAGES_FOLDER", f'    location ~* "^/({"|".join(paths)})?/?$" {{')
 
 
 def site_titles(addresses: List[Address], limits: Limits) -> List[str]:

@@ -15,7 +15,7 @@ PLACES = {
     "docs/life.1": [('"life ', '"')],
     "docs/life-draw.1": [('"life\\-draw ', '"')],
     "docs/life-haul.1": [('"life\\-haul ', '"')],
-    "tests/booted.py": [('VERSION = "', '"')],
+    "tests/debian.py": [('VERSION = "', '"')],
     "tests/cases/words/version.stdout": [("life ", "\n")],
 }
 

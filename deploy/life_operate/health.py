@@ -1,17 +1,17 @@
 """Reports problems of a club's archive. Run by life-age.timer, as the user of the archive.
 
-    life-age [--state FOLDER] [--port PORT] [--root FOLDER] ARCHIVE COPIES AGE
+    life-age [--state FOLDER] [--port PORT] [--memory SIZE] [--root FOLDER] ARCHIVE COPIES AGE
     life-age --certificate FILE
     life-age --writer USER FOLDER..
 
 The status is 1, with a line on standard error, as long as one of these holds: the folder COPIES has no copy younger
 than AGE (such as 2h); the archive's file is not the one that the service has open; the service, its gateway or nginx is
 enabled, but has not been active for ten minutes; for that long nothing has listened at PORT, the service's port; the
-disk of the archive is nearly full; the archive has nine tenths of the rows that it may have. If there is no copy at
-all, the last change of COPIES counts. The folder --state records since when a unit has not been active. --root replaces
-/. The other forms are for root. The second one checks a certificate: two weeks before it expires the status is 1. The
-third one checks the folders to which nginx writes as USER, if they exist: whether it can, and whether their disks have
-room.
+disk of the archive is nearly full; the archive has nine tenths of the rows that it may have, or so many that a program
+with SIZE of memory could not open it. If there is no copy at all, the last change of COPIES counts. The folder --state
+records since when a unit has not been active. --root replaces /. The other forms are for root. The second one checks a
+certificate: two weeks before it expires the status is 1. The third one checks the folders to which nginx writes as
+USER, if they exist: whether it can, and whether their disks have room.
 """
 import argparse
 import datetime
@@ -41,6 +41,8 @@ LEAST_ROOM = 64 << 20
 LEAST_FILES = 1000
 # How many rows an archive may have of each table: CAPACITY in docs/limits.csv.
 CAPACITY = 1_000_000
+# How many bytes an open archive takes for a deposit: 28 MB for 100,000, as measured, and a tenth more.
+BYTES_OF_DEPOSIT = 308
 # How many seconds before the end of a certificate there is an alarm: two weeks.
 EXPIRES_WITHIN = 14 * 86400
 # How often, and how many seconds apart, to check a file that nobody has open: the service may just be starting.
@@ -74,8 +76,9 @@ def age_of(archive: str, folder: str, age: str) -> tuple[str, str]:
     return f"no good copy for {age}: {words}", ""
 
 
-def nearly_full(archive: str, folder: str) -> Iterator[str]:
-    """The tables that are nearly full, by the newest copy. If it can't be read, life-copy and life-sound say so."""
+def too_many(archive: str, folder: str, memory: str) -> Iterator[str]:
+    """The tables that are nearly full, and the memory that is missing, by the newest copy. If it can't be read,
+    life-copy and life-sound say so."""
     try:
         copies = Copies(archive, folder)
         path = copies.path(copies.past()[0])
@@ -86,6 +89,9 @@ def nearly_full(archive: str, folder: str) -> Iterator[str]:
     for table, count in rows.items():
         if count >= CAPACITY * 9 // 10:
             yield f"{archive} is nearly full: it has {count:,} of at most {CAPACITY:,} {table}"
+    needed = -(-rows["deposits"] * BYTES_OF_DEPOSIT >> 20)
+    if memory and life_settings.mebibytes(memory) < needed:
+        yield f"LIFE_MEMORY={memory} is too little to open {archive}: {rows['deposits']:,} deposits take {needed}M"
 
 
 # ---- the service
@@ -205,7 +211,7 @@ def faults_of(words: argparse.Namespace) -> tuple[list[str], str]:
         served(words.root, archive),
         *(away(words.root, words.state, words.port) if words.state else []),
         room(archive),
-        *nearly_full(archive, folder),
+        *too_many(archive, folder, words.memory),
     ]
     return [fault for fault in faults if fault], well
 
@@ -216,6 +222,7 @@ def main() -> None:
     parser.add_argument("--writer", metavar=("USER", "FOLDER"), nargs="+")
     parser.add_argument("--state", metavar="FOLDER")
     parser.add_argument("--port", metavar="PORT", type=int)
+    parser.add_argument("--memory", metavar="SIZE", default="")
     parser.add_argument("--root", default="/", metavar="FOLDER")
     for name in ("archive", "copies", "age"):
         parser.add_argument(name, metavar=name.upper(), nargs="?")

@@ -1,7 +1,7 @@
 """What tests/test_gateway.py does to a gateway as strangers: floods, requests that take the program long beside ten
 honest clients, and many addresses of one network of IPv6.
 
-    tests/strangers.py PROGRAM FOLDER PART    is what it runs in a network of its own, as its root
+    tests/abuse.py PROGRAM FOLDER PART    is what it runs in a network of its own, as its root
 """
 import concurrent.futures
 import contextlib

@@ -4,6 +4,7 @@ has acknowledged.
 import json
 import os
 import re
+import shutil
 import subprocess
 import threading
 import time
@@ -11,14 +12,17 @@ from collections.abc import Callable
 
 import ledger
 import machine
-from clients import GLIDER_TEXT, check, same
+from clients import GLIDER_TEXT, HERE, check, same
 from ledger import Deposit, Ledger
 
+TOP = os.path.dirname(HERE)
 GLIDER = GLIDER_TEXT.decode()
 # A command that has ended.
 Done = subprocess.CompletedProcess[str]
 VERSION = "1.1.0"
 LATER, LATEST = f"{VERSION}+later", f"{VERSION}+latest"
+# A line of the settings, and what the package LATER has in its place.
+KEPT_MONTHS, LATER_MONTHS = "KEEP_MONTHS=12\n", "KEEP_MONTHS=13\n"
 ARCHIVE, COPIES, SITE, SETTINGS = (
     "/var/lib/life/club.db",
     "/var/backups/life",
@@ -66,6 +70,33 @@ for turn in range(most):
             break
         time.sleep(0.2)
 """
+
+
+class Packages:
+    """The packages of three versions in one folder, and the first version once more in another."""
+
+    def __init__(self, room: str) -> None:
+        self.out, self.again = os.path.join(room, "out"), os.path.join(room, "again")
+        self.made: list[tuple[str, Done]] = []
+
+    def make(self, folder: str, version: str) -> str:
+        """Makes the packages of a version; what is said on standard error."""
+        words = [os.path.join(TOP, "deploy", "package"), folder, version]
+        done = subprocess.run(words, capture_output=True, text=True, timeout=300)
+        self.made.append((version, done))
+        return done.stderr
+
+    def change_settings(self, version: str) -> None:
+        """Packs a package again with another value of a setting, as a later version may have it."""
+        deb, tree = os.path.join(self.out, f"life_{version}_amd64.deb"), os.path.join(self.out, "unpacked")
+        subprocess.run(["dpkg-deb", "--raw-extract", deb, tree], check=True, timeout=60)
+        with open(f"{tree}/usr/lib/life/settings", "r+", encoding="utf-8") as file:
+            text = file.read()
+            assert KEPT_MONTHS in text
+            file.seek(0)
+            file.write(text.replace(KEPT_MONTHS, LATER_MONTHS))
+        subprocess.run(["dpkg-deb", "-Znone", "--build", tree, deb], check=True, capture_output=True, timeout=60)
+        shutil.rmtree(tree)
 
 
 def until(what: Callable[[], object], seconds: int = BUSY) -> bool:
@@ -261,9 +292,9 @@ def packages_of(version: str) -> list[str]:
 
 
 def installed(debian: Debian, version: str, *words: str) -> Done:
-    return debian.run(
-        "apt-get", "install", "--yes", "--no-install-recommends", *words, *packages_of(version), timeout=300
-    )
+    """Installs the packages of a version, without a terminal: a question fails."""
+    command = ["apt-get", "install", "--yes", "--no-install-recommends", *words, *packages_of(version)]
+    return debian.run(*command, data="", timeout=300)
 
 
 def sums(path: str) -> str:

@@ -16,8 +16,8 @@ from life_operate.archive import (
     copied_in_time,
     fold,
     has_commit,
-    lacking,
-    lacks,
+    missing_rows,
+    replacement_fault,
     state_of,
     try_by_program,
 )
@@ -95,7 +95,7 @@ def join(copy: str, archive: str, new: str, name: str) -> Contents:
     shutil.copyfile(archive + "-wal", new + "-wal")
     fold(new, name)
     found = Contents(new, name)
-    if why := lacks(found, Contents(copy, copy)):
+    if why := replacement_fault(found, Contents(copy, copy)):
         raise Refused(why)
     return found
 
@@ -112,7 +112,7 @@ def known_copies(archive: str, folder: str, new: Contents) -> dict[str, Contents
             with contextlib.suppress(Refused):
                 contents = Contents(copies.path(stamp), copies.path(stamp))
                 found[os.path.basename(contents.name)] = contents
-                if ends and not lacking(new, contents):
+                if ends and not missing_rows(new, contents):
                     break
     return found
 
@@ -160,12 +160,12 @@ def lost_numbers(new: Contents, there: Contents) -> str:
 
 def differences(new: Contents, there: Contents) -> list[str]:
     """The evidence that these are two archives, not one archive at two times."""
-    return [part for part in lacking(new, there) if part.startswith("another")]
+    return [part for part in missing_rows(new, there) if part.startswith("another")]
 
 
 def decide(new: Contents, found: Findings, words: argparse.Namespace) -> None:
     """Says what would be lost, and refuses to lose it unless the command line asked for that."""
-    faults = [there for there in found.all() if lacking(new, there)]
+    faults = [there for there in found.all() if missing_rows(new, there)]
     if not faults:
         return
     others = [there for there in faults if differences(new, there)]
@@ -179,7 +179,7 @@ def decide(new: Contents, found: Findings, words: argparse.Namespace) -> None:
             f"{', '.join(differences(new, there))}"
         )
         advice = f"if it is the right one: {again}"
-    elif found.joined and lacking(new, found.joined):
+    elif found.joined and missing_rows(new, found.joined):
         text = f"{words.copy} lacks {lost_numbers(new, found.joined)}, which {found.joined.name} has"
         advice = (
             f"to have them: {shlex.join([RESTORE, '--with-log', found.newest])}; to give these numbers again: {again}"
@@ -208,4 +208,4 @@ def decide_on_row(wrong: str, words: argparse.Namespace) -> None:
 
 def copies_with_more(new: Contents, found: Findings) -> list[str]:
     """The names of copies that have more than the new archive. life-copy would refuse to work beside them."""
-    return [name for name, contents in found.copies.items() if lacking(new, contents)]
+    return [name for name, contents in found.copies.items() if missing_rows(new, contents)]

@@ -26,6 +26,7 @@ from gateways import BUSY, Gateway
 from pages import DIGESTED, asked, bundled, content, kept, told, with_sources
 import web_addresses
 import web_club
+import web_collection
 import web_colors
 import web_compare
 import web_deposits
@@ -562,6 +563,8 @@ ADDRESSES = [
     "haul",
     "c/1",
     "o/B3-S23/xp3_co9nas0san9oczgoldlo0oldlogz1047210127401",
+    "l",
+    "l/~Lesson_3,4~A_gun,1at2",
     "d/900",
     "x",
 ]
@@ -580,6 +583,7 @@ PARTS: list[Callable[..., None]] = [
     *web_layout.PARTS,
     *web_search.PARTS,
     *web_compare.PARTS,
+    *web_collection.PARTS,
     # The form of the search needs the index, which is there now.
     web_waiting.contrasts,
     *web_club.PARTS,

@@ -138,6 +138,7 @@ export async function deposits(page, given) {
       after > 0 ? afterAddress(Math.max(0, after - SHOWN)) : null,
       end < last ? afterAddress(after + SHOWN) : null,
     ),
+    isFirst ? '' : make('p', {}, make('a', { href: '/l' }, 'Make a collection'), ' of deposits in an order of yours'),
   );
   page.say(`${plural(rows.length, 'deposit')}, ${first} to ${end}.`);
   return last;

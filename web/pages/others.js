@@ -11,6 +11,7 @@ export { mayBePattern } from '../patterns/formats.js';
 export { frequentParts } from './frequent.js';
 export { haulPage } from './haul.js';
 export { NO_FILES, filesOf } from '../patterns/names.js';
+export { collectionPage } from './collection.js';
 export { comparePage } from './compare.js';
 export { depositForm } from './new.js';
 export { newAddress } from './old.js';

@@ -20,6 +20,7 @@ import gateways
 import life
 import paths
 import web_haul
+import web_home
 from browser import Browser, Relay
 from clients import HERE, check, run, same
 from gateways import BUSY, Gateway
@@ -581,6 +582,7 @@ PARTS: list[Callable[..., None]] = [
     *web_editor.PARTS,
     *web_waiting.PARTS,
     *web_layout.PARTS,
+    *web_home.PARTS,
     *web_search.PARTS,
     *web_compare.PARTS,
     *web_collection.PARTS,

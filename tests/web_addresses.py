@@ -137,7 +137,8 @@ class Previewed(html.parser.HTMLParser):
 def page_of(gateway: Gateway, named: str = "") -> bytes:
     """The page as the gateway gives it, while there is no index, at an address that a preview calls so."""
     page = content(os.path.join(gateway.folder, "pages", "index.html")).decode()
-    put = {"named": "", "life_title": named, "life_origin": f"http://127.0.0.1:{gateway.port}"}
+    origin = f"http://127.0.0.1:{gateway.port}"
+    put = {"named": "", "life_title": named, "life_origin": origin, "life_chosen": ""}
     page = re.sub(r'<!--# echo var="(\w+)" default="" -->', lambda found: put[found[1]], page)
     return re.sub(r"<!--# .*? -->", "", page).encode()
 

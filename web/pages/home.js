@@ -3,9 +3,9 @@
 
 import { collectionAddress, readCollection } from '../shared/collection.js';
 import { make, plural } from '../shared/dom.js';
+import { load } from '../shared/groups.js';
 import { indexHead } from '../requests/index.js';
 import { cards, deposits } from './list.js';
-import { Playing } from './playing.js';
 
 /** Examples for the search box, one of each kind, and where they lead. */
 const EXAMPLES = [
@@ -30,7 +30,7 @@ const idle = () => new Promise((resolve) => {
 async function addFrequent(page, place) {
   try {
     await idle();
-    const { frequentParts } = await import('./others.js');
+    const { frequentParts } = await load('others');
     const parts = await frequentParts(page.signal);
     if (!page.signal.aborted) place.replaceChildren(...parts);
   } catch {
@@ -57,11 +57,30 @@ function chosenPart(page, { title, items }) {
   );
 }
 
+/** Plays the first of these deposits that there is, once the page is idle. */
+async function play(page, places, items) {
+  try {
+    await idle();
+    const { Playing } = await load('others');
+    const playing = new Playing(page, places);
+    if (await playing.show(items)) playing.run();
+    else places.play.hidden = true;
+  } catch {
+    // The page is complete without it.
+    places.play.hidden = true;
+  }
+}
+
 /** The first page of the archive. */
 export async function homePage(page) {
   const examples = EXAMPLES.flatMap(([text, href]) => [' ', make('a', { class: 'example', href }, text)]);
   const frequent = make('div', { class: 'frequent' });
-  const [chosen, playing] = [chosenCollection(), new Playing(page)];
+  const chosen = chosenCollection();
+  const places = {
+    seen: make('div', { class: 'seen' }),
+    line: make('p', { class: 'hint' }),
+    play: make('a', { class: 'button main', id: 'play-it' }, 'Play'),
+  };
   page.root.append(
     make('div', { class: 'welcome' },
       make('div', {},
@@ -72,21 +91,18 @@ export async function homePage(page) {
           make('a', { href: '/about' }, 'About this archive'),
         ),
         make('p', { class: 'row' },
-          playing.play,
+          places.play,
           make('a', { class: 'button', id: 'deposit-yours', href: '/new' }, 'Deposit yours'),
         ),
         make('p', { class: 'examples' }, 'Try the search box:', examples),
       ),
-      playing.root,
+      make('div', { class: 'playing' }, places.seen, places.line),
     ),
     chosenPart(page, chosen),
   );
-  const shown = playing.show(chosen.items.length > 0 ? chosen.items : [FIRST]).catch(() => false);
   const last = await deposits(page);
   if (last === 0) page.root.querySelector('.examples a[href="/d/1"]').remove();
   page.root.append(frequent);
-  const isShown = await shown;
-  playing.play.hidden = !isShown;
-  idle().then(() => { if (isShown && !page.signal.aborted) playing.run(); });
+  play(page, places, chosen.items.length > 0 ? chosen.items : [FIRST]);
   if ((await indexHead())?.counts.censuses > 0) addFrequent(page, frequent);
 }

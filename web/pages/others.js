@@ -15,4 +15,5 @@ export { collectionPage } from './collection.js';
 export { comparePage } from './compare.js';
 export { depositForm } from './new.js';
 export { newAddress } from './old.js';
+export { Playing } from './playing.js';
 export { saveParts } from '../drawing/picture.js';

@@ -1,5 +1,5 @@
-// The deposit that plays on the first page. The browser computes its generations, and the page says so; its own page has
-// those of the archive.
+// The deposit that plays on the first page. The browser computes its generations, and the page says so; its own page
+// has those of the archive.
 
 import { depositAddress } from '../shared/address.js';
 import { deposit, generation } from '../requests/archive.js';
@@ -14,13 +14,9 @@ const [SHOWN, LAST] = [100, 300];
 const [ROOM, LARGEST] = [1.5, 8];
 
 export class Playing {
-  canvas = make('canvas', { id: 'playing', role: 'img', 'aria-label': 'A pattern that plays' });
-  /** Opens the deposit. */
-  play = make('a', { class: 'button main', id: 'play-it' }, 'Play');
+  canvas = make('canvas', { id: 'playing', role: 'img' });
   link = make('a', {});
-  line = make('p', { class: 'hint' });
   pause = make('button', { type: 'button', id: 'pause', hidden: true, click: () => this.#toggle() });
-  root = make('div', { class: 'playing' }, make('div', { class: 'seen' }, this.canvas, this.pause), this.line);
   /** What it begins with: the generation and its record; and the generation at which it begins again. */
   first = 0;
   record = null;
@@ -28,9 +24,14 @@ export class Playing {
   #turn = null;
   #view = { left: 0, top: 0, size: 1 };
 
-  /** @param {any} page */
-  constructor(page) {
+  /**
+   * @param {any} page
+   * @param {{ seen: HTMLElement, line: HTMLElement, play: HTMLAnchorElement }} places for the canvas, for a line about
+   *   it, and the link that opens the deposit
+   */
+  constructor(page, places) {
     this.page = page;
+    this.places = places;
     this.canvas.redraw = () => this.#draw();
     const watch = new ResizeObserver(() => this.#fit());
     watch.observe(this.canvas);
@@ -61,11 +62,13 @@ export class Playing {
   }
 
   #begin(address) {
-    this.play.href = this.link.href = address;
-    this.play.ariaLabel = `Play ${this.name}`;
+    const { seen, line, play } = this.places;
+    play.href = this.link.href = address;
+    play.ariaLabel = `Play ${this.name}`;
     this.link.replaceChildren(this.name);
-    this.line.replaceChildren(this.link, ', computed by your browser');
+    line.replaceChildren(this.link, ', computed by your browser');
     this.canvas.setAttribute('aria-label', this.name);
+    seen.append(this.canvas, this.pause);
     this.shown = { pattern: this.record.pattern, corner: { column: 0, row: 0 } };
     this.at = this.first;
     this.#fit();

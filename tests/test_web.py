@@ -40,6 +40,7 @@ import web_many
 import web_members
 import web_pictures
 import web_player
+import web_previews
 import web_search
 import web_visits
 import web_waiting
@@ -592,6 +593,7 @@ PARTS: list[Callable[..., None]] = [
     *web_members.PARTS,
     *web_visits.PARTS,
     *web_withdrawn.PARTS,
+    *web_previews.PARTS,
 ]
 
 

@@ -93,6 +93,7 @@ ROUTES = [
     "/objects/",
 ]
 SITE_NAME = "Life archive"
+PICTURE = "/web/preview.png"
 CODE = "xp3_co9nas0san9oczgoldlo0oldlogz1047210127401"
 OLD = {
     "": "/",
@@ -138,7 +139,7 @@ def page_of(gateway: Gateway, named: str = "") -> bytes:
     """The page as the gateway gives it, while there is no index, at an address that a preview calls so."""
     page = content(os.path.join(gateway.folder, "pages", "index.html")).decode()
     origin = f"http://127.0.0.1:{gateway.port}"
-    put = {"named": "", "life_title": named, "life_origin": origin, "life_chosen": ""}
+    put = {"named": "", "life_title": named, "life_origin": origin, "life_chosen": "", "life_picture": PICTURE}
     page = re.sub(r'<!--# echo var="(\w+)" default="" -->', lambda found: put[found[1]], page)
     return re.sub(r"<!--# .*? -->", "", page).encode()
 

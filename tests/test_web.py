@@ -20,12 +20,14 @@ import gateways
 import life
 import paths
 import web_haul
+import web_home
 from browser import Browser, Relay
 from clients import HERE, check, run, same
 from gateways import BUSY, Gateway
 from pages import DIGESTED, asked, bundled, content, kept, told, with_sources
 import web_addresses
 import web_club
+import web_collection
 import web_colors
 import web_compare
 import web_deposits
@@ -38,6 +40,7 @@ import web_many
 import web_members
 import web_pictures
 import web_player
+import web_previews
 import web_search
 import web_visits
 import web_waiting
@@ -562,6 +565,8 @@ ADDRESSES = [
     "haul",
     "c/1",
     "o/B3-S23/xp3_co9nas0san9oczgoldlo0oldlogz1047210127401",
+    "l",
+    "l/~Lesson_3,4~A_gun,1at2",
     "d/900",
     "x",
 ]
@@ -578,14 +583,17 @@ PARTS: list[Callable[..., None]] = [
     *web_editor.PARTS,
     *web_waiting.PARTS,
     *web_layout.PARTS,
+    *web_home.PARTS,
     *web_search.PARTS,
     *web_compare.PARTS,
+    *web_collection.PARTS,
     # The form of the search needs the index, which is there now.
     web_waiting.contrasts,
     *web_club.PARTS,
     *web_members.PARTS,
     *web_visits.PARTS,
     *web_withdrawn.PARTS,
+    *web_previews.PARTS,
 ]
 
 

@@ -37,6 +37,10 @@ ADDRESSES = [
     ("/o/B3-S23", "", "Objects of B3/S23"),
     ("/about", "", "About"),
     ("/compare?one=4&other=1", "", "Compare"),
+    ("/l", "Collection · ", "Collection"),
+    ("/l/", "Collection · ", "Collection"),
+    ("/l/4,1", "Collection · ", "Collection"),
+    ("/l/~Lesson_3,4at30~A_gun", "Collection · ", "Lesson 3"),
     ("/new", "", "New deposit"),
     ("/find", "", "Find"),
     ("/find?text=gun", "", "gun · Found"),
@@ -89,6 +93,7 @@ ROUTES = [
     "/objects/",
 ]
 SITE_NAME = "Life archive"
+PICTURE = "/web/preview.png"
 CODE = "xp3_co9nas0san9oczgoldlo0oldlogz1047210127401"
 OLD = {
     "": "/",
@@ -133,7 +138,8 @@ class Previewed(html.parser.HTMLParser):
 def page_of(gateway: Gateway, named: str = "") -> bytes:
     """The page as the gateway gives it, while there is no index, at an address that a preview calls so."""
     page = content(os.path.join(gateway.folder, "pages", "index.html")).decode()
-    put = {"named": "", "life_title": named, "life_origin": f"http://127.0.0.1:{gateway.port}"}
+    origin = f"http://127.0.0.1:{gateway.port}"
+    put = {"named": "", "life_title": named, "life_origin": origin, "life_chosen": "", "life_picture": PICTURE}
     page = re.sub(r'<!--# echo var="(\w+)" default="" -->', lambda found: put[found[1]], page)
     return re.sub(r"<!--# .*? -->", "", page).encode()
 

@@ -23,6 +23,8 @@ ADDRESSES = (
     "/haul",
     "/about",
     "/compare?one=4&other=1",
+    "/l",
+    "/l/~Lesson_3,4~A_gun,1",
 )
 ENTER = "\ue007"
 FILE = b"#N By Firefox\nx = 4, y = 2\no2bo$4o!\n"

@@ -12,7 +12,7 @@ ON_ITS_SIDE = (844, 390)
 # At most so much of the window may move while a page loads: what web.dev calls a good layout shift.
 MOST_SHIFT = 0.1
 PATHS = ["/", "/d", "/d/4", "/d/of/ann", "/c", "/c/1", "/o", "/o/B3-S23/xq4_153", "/find", "/about", "/new", "/haul"]
-PATHS += ["/compare?one=4&other=1"]
+PATHS += ["/compare?one=4&other=1", "/l", "/l/~Lesson_3,4~A_gun,1,2at1"]
 OBSERVE = """
 window.shifts = [];
 new PerformanceObserver((list) => shifts.push(...list.getEntries())).observe({ type: 'layout-shift', buffered: true });

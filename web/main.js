@@ -31,6 +31,8 @@ const ADDRESSES = {
   objects: /^\/o(?:\/([^/]+))?$/i,
   code: /^\/o\/([^/]+)\/([^/]+)$/i,
   compare: /^\/compare$/i,
+  collection: /^\/l$/i,
+  list: /^\/l\/(.+)$/i,
   about: /^\/about$/i,
 };
 // end of addresses
@@ -53,6 +55,8 @@ const PAGES = [
   [ADDRESSES.objects, 'objects', later('others', 'catalogPage')],
   [ADDRESSES.code, 'objects', later('others', 'codePage')],
   [ADDRESSES.compare, 'deposits', later('others', 'comparePage')],
+  [ADDRESSES.collection, 'deposits', later('others', 'collectionPage')],
+  [ADDRESSES.list, 'deposits', later('others', 'collectionPage')],
   [ADDRESSES.about, 'about', later('others', 'aboutPage')],
 ];
 

@@ -1,6 +1,6 @@
 """Builds the search index of an archive from a copy: static files for a web server.
 
-    life-index [--archive FILE] [--withdrawn LIST] COPY FOLDER
+    life-index [--archive FILE] [--withdrawn LIST] [--draw PROGRAM] COPY FOLDER
 
 COPY is a copy that life-copy made, or a folder of copies, from which it takes the newest; with --archive, the newest
 copy of FILE. The deposits in LIST are left out: their texts are empty, their sizes 0. It writes these files into
@@ -16,6 +16,8 @@ FOLDER, which it creates if necessary:
     feed.xml              the newest deposits, as Atom
     names-K.txt           the names of deposits 1,000 K to 1,000 K + 999: the gateway writes them into the titles of
                           pages
+    previews/N.png        a picture of deposit N, which other sites show for a link to it: made if PROGRAM is installed
+                          (life-draw), for the newest 10,000 deposits, a part of them in each run
     rows.json             for life-index only: a digest of the rows of each block, and the deposits that are left out
 
 SUM is the beginning of the file's SHA-256 digest, so a file with a given name never changes. A block is made again if a
@@ -43,6 +45,7 @@ from collections.abc import Collection, Iterable
 from typing import Any
 from xml.sax.saxutils import escape
 
+from life_operate import previews
 from life_operate.archive import Copies, Refused, sync
 from life_operate.exchange import own_lock
 from life_operate.settings import BadSetting
@@ -506,6 +509,7 @@ def make_index(words: argparse.Namespace) -> str:
     folder.remove_others(head, archive.withdrawn)
     of_blocks = {name: digest for kind in KINDS for name, digest in zip(blocks[kind], rows[kind])}
     folder.write(ROWS, json_of({"digests": of_blocks, "withdrawn": sorted(archive.withdrawn)}))
+    previews.update(archive, words.folder, digests["deposits"], words.draw)
     sync(words.folder)
     return ", ".join(f"{table}: {archive.counts[table]}" for table in TABLES)
 
@@ -521,6 +525,7 @@ def main() -> None:
     parser = argparse.ArgumentParser(description=__doc__, formatter_class=argparse.RawDescriptionHelpFormatter)
     parser.add_argument("--archive", metavar="FILE")
     parser.add_argument("--withdrawn", metavar="LIST")
+    parser.add_argument("--draw", metavar="PROGRAM", default="life-draw")
     parser.add_argument("copy", metavar="COPY")
     parser.add_argument("folder", metavar="FOLDER")
     words = parser.parse_args()

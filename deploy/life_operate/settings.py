@@ -10,7 +10,7 @@ from collections.abc import Container, Iterable
 USUAL = "/etc/life/settings"
 # The file beside the package has a value for every setting; a club's file overrides it.
 OWN = os.path.join(os.path.dirname(os.path.dirname(os.path.realpath(__file__))), "settings")
-LINE = re.compile(r"([A-Z_]+)=([A-Za-z0-9_./:@%+*,\[\] -]*)")
+LINE = re.compile(r"([A-Z_]+)=([A-Za-z0-9_./:@%+*,~\[\] -]*)")
 PORT = (r"[1-9][0-9]{0,4}", "a port from 1 to 65535")
 COUNT = (r"[1-9][0-9]{0,8}", "a number from 1 on")
 PATH = (r"/[A-Za-z0-9_./@+:-]*", "an absolute path without spaces")
@@ -49,6 +49,8 @@ FORMS = {
     "HSTS": (r"[1-9][0-9]{0,8}|no|", "a number of seconds, or no"),
     "MEMBERS_FILE": PATH_OR_NONE,
     "PAGES_FOLDER": PATH_OR_NONE,
+    # Captions have no other signs (web/shared/collection.js), so nginx reads none of them as its own.
+    "CHOSEN": (r"(/l/[A-Za-z0-9_.,~%-]{1,6000})?", "the address of a collection such as /l/4,7at30, or empty"),
     "OWN_SITE": PATH_OR_NONE,
     "WITHDRAWN": PATH,
     "FRONT_PROXIES": (

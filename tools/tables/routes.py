@@ -102,7 +102,7 @@ def compare(routes: List[Route], program: Program, read: Read) -> Iterator[Optio
 def in_addresses(limits: Limits) -> Patterns:
     """What a parameter of an address may be."""
     member = f"[a-z0-9-]{{1,{limits.named('LONGEST_MEMBER').value}}}"
-    return {"number": NUMBER, "at": NUMBER, "member": member, "rule": PART, "code": PART}
+    return {"number": NUMBER, "at": NUMBER, "member": member, "rule": PART, "code": PART, "list": ".+"}
 
 
 def expression(path: str, patterns: Patterns, form: Callable[[str, str], str] = lambda name, pattern: pattern) -> str:

@@ -1,25 +1,13 @@
 // PNG pictures and animations of patterns (PNG Specification, third edition, with APNG): one bit a pixel, compressed by
 // the browser, with texts about the origin.
 
+import { crc32 } from '../shared/crc.js';
+
 const SIGNATURE = Uint8Array.of(137, 80, 78, 71, 13, 10, 26, 10);
 /** From this size on there is a gap of a pixel between cells. */
 const GAP_FROM = 6;
 /** The bits of a byte, the first pixel first. */
 const BITS = [128, 64, 32, 16, 8, 4, 2, 1];
-
-/** The remainders of bytes by the polynomial of the checksum. */
-const REMAINDERS = Uint32Array.from({ length: 256 }, (_, byte) => {
-  let rest = byte;
-  for (let bit = 0; bit < 8; bit += 1) rest = rest & 1 ? 0xedb88320 ^ (rest >>> 1) : rest >>> 1;
-  return rest;
-});
-
-/** @param {Uint8Array} bytes */
-function checksum(bytes) {
-  let rest = -1;
-  for (const byte of bytes) rest = REMAINDERS[(rest ^ byte) & 255] ^ (rest >>> 8);
-  return ~rest;
-}
 
 /** Numbers of four bytes each. @param {number[]} numbers */
 export function words(...numbers) {
@@ -47,7 +35,7 @@ function joined(...parts) {
  */
 export function chunk(type, ...parts) {
   const data = joined(new TextEncoder().encode(type), ...parts);
-  return joined(words(data.length - 4), data, words(checksum(data)));
+  return joined(words(data.length - 4), data, words(crc32(data)));
 }
 
 /** A chunk with a text in UTF-8. */

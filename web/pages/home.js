@@ -1,8 +1,11 @@
-// The first page: what this is, the most frequent objects, and the newest deposits.
+// The first page: what this is, with a pattern that plays; the club's choice, the newest deposits, and the most
+// frequent objects.
 
-import { make } from '../shared/dom.js';
+import { collectionAddress, readCollection } from '../shared/collection.js';
+import { make, plural } from '../shared/dom.js';
+import { load } from '../shared/groups.js';
 import { indexHead } from '../requests/index.js';
-import { deposits } from './list.js';
+import { cards, deposits } from './list.js';
 
 /** Examples for the search box, one of each kind, and where they lead. */
 const EXAMPLES = [
@@ -11,6 +14,11 @@ const EXAMPLES = [
   ['B36/S23', '/find?rule=B36%2FS23'],
   ['#1', '/d/1'],
 ];
+
+/** How many deposits of the club's choice are shown: a row of them. */
+const CHOSEN = 6;
+/** What plays if the club has chosen nothing. */
+const FIRST = { number: 1, at: 0, caption: '' };
 
 /** Waits until the page is idle, so that the deposits are drawn first. Browsers that can't tell get a short pause. */
 const idle = () => new Promise((resolve) => {
@@ -22,7 +30,7 @@ const idle = () => new Promise((resolve) => {
 async function addFrequent(page, place) {
   try {
     await idle();
-    const { frequentParts } = await import('./others.js');
+    const { frequentParts } = await load('others');
     const parts = await frequentParts(page.signal);
     if (!page.signal.aborted) place.replaceChildren(...parts);
   } catch {
@@ -30,25 +38,71 @@ async function addFrequent(page, place) {
   }
 }
 
+/** The club's choice, from the setting CHOSEN, which the gateway writes into the page. */
+function chosenCollection() {
+  const { content } = /** @type {HTMLMetaElement} */ (document.querySelector('meta[name=chosen]'));
+  return readCollection(content.split('/l/')[1] ?? '');
+}
+
+/** A section with the club's choice; nothing if there is none. */
+function chosenPart(page, { title, items }) {
+  if (items.length === 0) return '';
+  const rows = items.slice(0, CHOSEN).map(({ number, at, caption }) => ({ id: number, at, name: caption }));
+  return make('section', { id: 'chosen' },
+    make('h2', {}, title || 'Chosen'),
+    cards(page, rows),
+    make('p', {},
+      make('a', { href: collectionAddress({ title, items }) }, `All ${plural(items.length, 'deposit')} in a row`),
+    ),
+  );
+}
+
+/** Plays the first of these deposits that there is, once the page is idle. */
+async function play(page, places, items) {
+  try {
+    await idle();
+    const { Playing } = await load('others');
+    const playing = new Playing(page, places);
+    if (await playing.show(items)) playing.run();
+    else places.play.hidden = true;
+  } catch {
+    // The page is complete without it.
+    places.play.hidden = true;
+  }
+}
+
 /** The first page of the archive. */
 export async function homePage(page) {
   const examples = EXAMPLES.flatMap(([text, href]) => [' ', make('a', { class: 'example', href }, text)]);
   const frequent = make('div', { class: 'frequent' });
+  const chosen = chosenCollection();
+  const places = {
+    seen: make('div', { class: 'seen' }),
+    line: make('p', { class: 'hint' }),
+    play: make('a', { class: 'button main', id: 'play-it' }, 'Play'),
+  };
   page.root.append(
-    make('h1', { tabindex: -1 }, 'A club’s archive of Game of Life patterns'),
-    make('p', { class: 'lead' },
-      'Play a pattern, count its objects, and cite any generation by an address that never changes. '
-        + 'Whenever you stop, the generation shown comes from a program that is proved correct. ',
-      make('a', { href: '/about' }, 'About this archive'),
+    make('div', { class: 'welcome' },
+      make('div', {},
+        make('h1', { tabindex: -1 }, 'A club’s archive of Game of Life patterns'),
+        make('p', { class: 'lead' },
+          'Play a pattern, count its objects, and cite any generation by an address that never changes. '
+            + 'Whenever you stop, the generation shown comes from a program that is proved correct. ',
+          make('a', { href: '/about' }, 'About this archive'),
+        ),
+        make('p', { class: 'row' },
+          places.play,
+          make('a', { class: 'button', id: 'deposit-yours', href: '/new' }, 'Deposit yours'),
+        ),
+        make('p', { class: 'examples' }, 'Try the search box:', examples),
+      ),
+      make('div', { class: 'playing' }, places.seen, places.line),
     ),
-    make('p', { class: 'examples' }, 'Try the search box:', examples),
-    frequent,
+    chosenPart(page, chosen),
   );
-  // There are objects only after a census. They have room from the beginning, so that nothing moves when they come.
-  const hasObjects = (await indexHead())?.counts.censuses > 0;
-  frequent.classList.toggle('coming', hasObjects);
-  page.signal.throwIfAborted();
   const last = await deposits(page);
   if (last === 0) page.root.querySelector('.examples a[href="/d/1"]').remove();
-  if (hasObjects) addFrequent(page, frequent);
+  page.root.append(frequent);
+  play(page, places, chosen.items.length > 0 ? chosen.items : [FIRST]);
+  if ((await indexHead())?.counts.censuses > 0) addFrequent(page, frequent);
 }

@@ -1,7 +1,7 @@
 // The deposits: the newest, those after a number, those of a member.
 
 import { afterAddress, depositAddress, go, memberAddress } from '../shared/address.js';
-import { deposit, depositsAfter, lastDeposit } from '../requests/archive.js';
+import { deposit, depositsAfter, generation, lastDeposit } from '../requests/archive.js';
 import { make, plural, withCommas } from '../shared/dom.js';
 import { thumbnail } from '../drawing/draw.js';
 import { allDeposits, indexHead, indexNote } from '../requests/index.js';
@@ -28,23 +28,31 @@ function drawLater(page) {
   return watch;
 }
 
+/**
+ * A deposit as a card. Of a row that is not from a list only the number is known, and a generation, if it is of one.
+ * @param {any} page
+ * @param {{ id: number, at?: number, name?: string, member?: string, population?: number, rule?: string }} row
+ * @param {IntersectionObserver} watch
+ */
 function card(page, row, watch) {
+  const { id, at = 0, name: known, member, population, rule } = row;
   const picture = make('div', { class: 'picture' });
-  const name = make('strong', {}, row.name || `Deposit ${row.id}`);
+  const name = make('strong', {}, known || `Deposit ${id}`);
   const facts = [
-    `No. ${row.id}`,
-    row.member,
-    plural(row.population, 'cell'),
-    row.rule === 'B3/S23' ? null : row.rule,
+    `No. ${id}${at ? `, generation ${withCommas(at)}` : ''}`,
+    member,
+    population === undefined ? null : plural(population, 'cell'),
+    rule === 'B3/S23' ? null : rule,
   ].filter(Boolean).join(' · ');
   const item = make('li', {},
-    make('a', { href: depositAddress(row.id) }, picture, name, make('span', { class: 'facts' }, facts)),
+    make('a', { href: depositAddress(id, at) }, picture, name, make('span', { class: 'facts' }, facts)),
   );
   item.draw = async () => {
     try {
-      const { record } = await deposit(row.id, page.signal);
-      picture.replaceChildren(thumbnail(record.pattern, WIDTH, HEIGHT));
-      if (record.name) name.replaceChildren(record.name);
+      const { record } = await deposit(id, page.signal);
+      const { pattern } = at === 0 ? record : (await generation(id, at, page.signal)).record;
+      picture.replaceChildren(thumbnail(pattern, WIDTH, HEIGHT));
+      if (record.name && !(at && known)) name.replaceChildren(record.name);
     } catch (error) {
       if (page.signal.aborted) return;
       if (error.name === 'withdrawn') item.remove();
@@ -138,6 +146,7 @@ export async function deposits(page, given) {
       after > 0 ? afterAddress(Math.max(0, after - SHOWN)) : null,
       end < last ? afterAddress(after + SHOWN) : null,
     ),
+    isFirst ? '' : make('p', {}, make('a', { href: '/l' }, 'Make a collection'), ' of deposits in an order of yours'),
   );
   page.say(`${plural(rows.length, 'deposit')}, ${first} to ${end}.`);
   return last;

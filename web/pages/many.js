@@ -3,6 +3,7 @@
 
 import { depositAddress, memberAddress } from '../shared/address.js';
 import { depositRows, sendDeposit } from '../requests/archive.js';
+import { collectionAddress, MOST_ITEMS } from '../shared/collection.js';
 import { field, isMember, make, plural, refusal, withCommas } from '../shared/dom.js';
 import { thumbnail } from '../drawing/draw.js';
 import { cutButton, oldChoice, readGiven, refusedBy } from '../patterns/given.js';
@@ -203,6 +204,20 @@ const tableOf = (rows, caption) => make('table', { class: 'census files' },
   make('tbody', {}, rows.map(({ line }) => line)),
 );
 
+/** Links to collections of the deposits of files, in the order of the table. @param {Row[]} rows */
+function collectionLinks(rows) {
+  const items = rows.filter(({ kept }) => kept !== null).map(({ kept }) => ({ number: kept, at: 0, caption: '' }));
+  const title = rows[0].name.includes('/') ? rows[0].name.split('/')[0] : '';
+  const begins = Array.from({ length: Math.ceil(items.length / MOST_ITEMS) }, (_, at) => at * MOST_ITEMS);
+  return begins.flatMap((begin, at) => [
+    ' · ',
+    make('a', {
+      class: 'in-order',
+      href: collectionAddress({ title, items: items.slice(begin, begin + MOST_ITEMS) }),
+    }, begins.length === 1 ? 'as a collection' : `as a collection, part ${at + 1}`),
+  ]);
+}
+
 /** The table of some files, and the form that deposits the good ones. */
 export class Table {
   rows = [];
@@ -302,12 +317,15 @@ export class Table {
     this.#sayWhose(kept);
   }
 
-  /** Once all files are done: a link to the deposits of their member. */
+  /** Once all files are done: links to the deposits of their member, and to these in their order. */
   #sayWhose(kept) {
     const isDone = kept > 0 && this.open.length === 0 && this.owner;
-    this.seen.replaceChildren(isDone
-      ? make('a', { id: 'see-them', href: memberAddress(this.owner) }, `${withCommas(kept)} deposited: see them`)
-      : '');
+    this.seen.replaceChildren(...(isDone
+      ? [
+        make('a', { id: 'see-them', href: memberAddress(this.owner) }, `${withCommas(kept)} deposited: see them`),
+        ...collectionLinks(this.rows),
+      ]
+      : []));
   }
 
   /** Shows a table that the window has stored. */

@@ -1,14 +1,15 @@
 // The generation of a deposit that is shown: its address, its text, and depositing it.
 
 import { depositAddress, go } from '../shared/address.js';
+import { collectionAddress, readCollection } from '../shared/collection.js';
 import { copyButton, make, refusal, withCommas } from '../shared/dom.js';
 import { load } from '../shared/groups.js';
-import { COPIED, keepDraft } from '../shared/kept.js';
+import { COLLECTION, COPIED, draft, keepDraft } from '../shared/kept.js';
 import { LONGEST_SIDE } from '../shared/limits.js';
 import { passFiles } from '../shared/passed.js';
 import { ruleText } from '../patterns/rule.js';
 import { save } from '../shared/save.js';
-import { fileOf, withOrigin } from '../patterns/writer.js';
+import { fileOf, originOf, withOrigin } from '../patterns/writer.js';
 
 /**
  * What a member can do with the generation that is shown: cite its address, copy its text, take a census. It is updated
@@ -63,9 +64,11 @@ export class Shown {
    */
   get from() {
     const { at, bytes } = this.seen;
-    const computed = bytes === null ? ', computed by a browser' : '';
-    return { title: at === 0 ? this.first.name : `${this.name}, generation ${at}`,
-      origin: `${at === 0 ? 'Deposit' : `Generation ${at} of deposit`} ${this.number}${computed}, ${this.url}` };
+    const computed = bytes === null ? 'computed by a browser, ' : '';
+    return {
+      title: at === 0 ? this.first.name : `${this.name}, generation ${at}`,
+      origin: originOf(this.number, at, `${computed}${this.url}`),
+    };
   }
 
   get fileName() {
@@ -142,6 +145,14 @@ export class Shown {
     );
   }
 
+  /** Opens the collection that was edited last in this window, or a new one, with this generation at its end. */
+  #collect() {
+    const { title, items } = readCollection(draft(COLLECTION)?.slice('/l/'.length) ?? '');
+    const address = collectionAddress({ title, items: [...items, { number: this.number, at: this.at, caption: '' }] });
+    keepDraft(COLLECTION, address);
+    go(address);
+  }
+
   /** Asks for another deposit to compare with. */
   #compareForm() {
     const other = make('input', { id: 'compare-with', type: 'number', min: 1, required: true, inputmode: 'numeric' });
@@ -175,6 +186,7 @@ export class Shown {
         copyButton('Copy for the forum', forum, say),
         make('button', { type: 'button', id: 'edit', click: () => this.#edit() }, 'Edit'),
         make('button', { type: 'button', click: () => print() }, 'Print'),
+        make('button', { type: 'button', id: 'collect', click: () => this.#collect() }, 'Add to a collection'),
         this.#compareForm(),
       ),
       this.#downloads(),

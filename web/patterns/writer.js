@@ -52,6 +52,16 @@ export function withPattern(file, pattern) {
 }
 
 /**
+ * Where a generation of a deposit comes from.
+ * @param {number} number
+ * @param {number} at
+ * @param {string} url its address
+ */
+export const originOf = (number, at, url) => (
+  `${at === 0 ? 'Deposit' : `Generation ${at} of deposit`} ${number}, ${url}`
+);
+
+/**
  * A file with a `#C` line about its origin in front of its header, and with a name if it has none. The line is left out
  * if the archive would refuse it.
  * @param {Uint8Array} bytes a file from the archive, or one that `fileOf` wrote

@@ -46,7 +46,7 @@ module _ {D E : Type 0} (g : disk.Ghosts D) (h : disk.Ghosts E) (image again : I
     (clean : AreClean g files.log files.db) (may : outcomes g files.log files.db again) where
   -- the verdict was sound
   begins : (v : CheckVerdict) (further : List Wrong) → AreFurther (Ok v) further
-  → PutsVerdict v further before after (Ok tt)
+      → PutsVerdict v further before after (Ok tt)
       → (one : IsPathCheck false g image capacity (Ok v) further files)
       → (A : Archive) × Appends before after (verdict_line (Sound (length A.deposits) (length A.censuses)))
       × LeavesOne h (BecomesBy two (under next A)) left

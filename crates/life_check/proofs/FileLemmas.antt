@@ -10,20 +10,20 @@ use Rattle.life_store.specs.declared.store_fault.Unavailable.{Unavailable}
 use Rattle.life_store.specs.Tables.{ArchiveView}
 use Rattle.life_desk.specs.Represents.{kept_of}
 use Rattle.life_desk.proofs.Representing.{holds_of}
-use Rattle.life_check.specs.declared.judging.Verdict.{Verdict}
-use Rattle.life_check.specs.declared.judging.Verdict.TheVariants.{Sound, SoundButForCounts, NotSound}
+use Rattle.life_check.specs.declared.judging.CheckVerdict.{CheckVerdict}
+use Rattle.life_check.specs.declared.judging.CheckVerdict.TheVariants.{Sound, SoundButForCounts, NotSound}
 use Rattle.life_check.specs.declared.judging.Wrong.{Wrong}
 use Rattle.life_check.specs.Sound.{RepresentsSome}
 use Rattle.life_check.specs.Files.{EndsCheck, IsFoundAt, FindsIn, IsPathCheck}
 
 module _ {D : Type 0} {g : disk.Ghosts D} (quick : Bool) (a : ArchiveView (FileStore D g))
-    (checked : Result Verdict Unavailable) (further : List Wrong) (files : Files D)
+    (checked : Result CheckVerdict Unavailable) (further : List Wrong) (files : Files D)
     (ends : EndsCheck quick g a checked further files) (image : Image) (capacity : ℕ)
     (opens : IsFoundAt image capacity a) where
   still_healthy : AreClean g files.log files.db → IsTrue a.tables.is_healthy
   still_healthy clean = opens.healthy (ends.honest clean)
 
-  finds_in : (r : Result Verdict Unavailable) → AreClean g files.log files.db → IfOk r (RepresentsSome quick a)
+  finds_in : (r : Result CheckVerdict Unavailable) → AreClean g files.log files.db → IfOk r (RepresentsSome quick a)
       → IfOk r (FindsIn quick files a)
   finds_in (Ok (Sound d c)) clean it = (
     it.0,

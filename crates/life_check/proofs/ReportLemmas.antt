@@ -4,15 +4,15 @@ use Rattle.life_jobs.specs.declared.stop.Stop.{Stop}
 use Rattle.life_jobs.specs.declared.stop.Stop.TheVariants.{OutOfLimit, BadPattern, BadRule, BadCode, Unreadable}
 use Rattle.life_jobs.specs.declared.stop.Stop.TheVariants.{Unavailable, Unwritable}
 use Rattle.life_jobs.specs.Streams.{PutsText, PutsOnce}
-use Rattle.life_check.specs.declared.judging.Verdict.{Verdict}
-use Rattle.life_check.specs.declared.judging.Verdict.TheVariants.{Sound, SoundButForCounts, NotSound}
+use Rattle.life_check.specs.declared.judging.CheckVerdict.{CheckVerdict}
+use Rattle.life_check.specs.declared.judging.CheckVerdict.TheVariants.{Sound, SoundButForCounts, NotSound}
 use Rattle.life_check.specs.declared.report.CheckStop.{CheckStop}
 use Rattle.life_check.specs.declared.report.CheckStop.TheVariants as stops
 use Rattle.life_check.specs.declared.judging.Wrong.{Wrong}
 use Rattle.life_check.specs.Report.{checked_lines, answer_of, PutsVerdict, by_output}
 
 -- the lines were not put
-pub stopped_verdict : (v : Verdict) (further : List Wrong) (before after : Option (List ℕ)) (stop : Stop)
+pub stopped_verdict : (v : CheckVerdict) (further : List Wrong) (before after : Option (List ℕ)) (stop : Stop)
     → PutsText before after (checked_lines v further) (Err stop)
     → PutsVerdict v further before after (Err (stops.Job stop))
 stopped_verdict v further before after Unwritable put = inr (inl (refl, put))
@@ -24,17 +24,18 @@ stopped_verdict v further before after (BadCode fault) put = absurd put
 stopped_verdict v further before after Unreadable put = absurd put
 
 -- they were
-pub put_answer : (v : Verdict) (further : List Wrong) (before after : Option (List ℕ))
+pub put_answer : (v : CheckVerdict) (further : List Wrong) (before after : Option (List ℕ))
     (answer : Result (Unit {0}) CheckStop) → answer ≡ answer_of v
     → PutsText before after (checked_lines v further) (Ok tt) → PutsVerdict v further before after answer
 put_answer v further before after answer is put = inl (is, put)
 
-by_answer : (v : Verdict) → by_output (answer_of v) ≡ Ok tt
+by_answer : (v : CheckVerdict) → by_output (answer_of v) ≡ Ok tt
 by_answer (Sound d c) = refl
 by_answer (SoundButForCounts d c) = refl
 by_answer (NotSound w) = refl
 
-pub put_once : {O : Type 0} (old new : O) (a b : ℕ) (last : Bool) (v : Verdict) (answer : Result (Unit {0}) CheckStop)
+pub put_once : {O : Type 0} (old new : O) (a b : ℕ) (last : Bool) (v : CheckVerdict)
+    (answer : Result (Unit {0}) CheckStop)
     → answer ≡ answer_of v → PutsOnce old new a b last (Ok tt) → PutsOnce old new a b last (by_output answer)
 put_once old new a b last v answer is once =
     subst (λ (r : Result (Unit {0}) CheckStop). PutsOnce old new a b last (by_output r))

@@ -23,8 +23,8 @@ use Rattle.sqlite_schema.specs.declared.schema.Constraint.TheVariants.{Unique}
 use Rattle.sqlite_schema.specs.Rules.{Keeps}
 use Rattle.life_store.specs.Layout.{archive_schema}
 use Rattle.life_store.specs.TreesOf.{AreTreesOf}
-use Rattle.life_check.specs.declared.judging.Verdict.{Verdict}
-use Rattle.life_check.specs.declared.judging.Verdict.TheVariants.{Sound, SoundButForCounts, NotSound}
+use Rattle.life_check.specs.declared.judging.CheckVerdict.{CheckVerdict}
+use Rattle.life_check.specs.declared.judging.CheckVerdict.TheVariants.{Sound, SoundButForCounts, NotSound}
 use Rattle.life_check.specs.Sound.{AreSound, FindsSound, FindsWrong, IsAskedFor, HasUniqueTokens}
 use Rattle.life_check.specs.Sound.{HoldsInAnyOrder, RepresentsButForCounts, RepresentsSome, RepresentsNone}
 use Rattle.life_check.specs.Sound.{IsFirstError, AreNoArchive}
@@ -262,7 +262,7 @@ unfolding Represents
 other_tables quick a other = (λ A m. other m.holds.schema, other)
 
 -- what was found of the trees, said of the archive
-pub sound_is : {S : Type 0} (quick : Bool) (a : ArchiveView S) (trees : Trees) (v : Verdict)
+pub sound_is : {S : Type 0} (quick : Bool) (a : ArchiveView S) (trees : Trees) (v : CheckVerdict)
     → a.tables.schema ≡ archive_schema → AreTreesOf a.tables trees → FindsSound quick trees v → RepresentsSome quick a v
 sound_is quick a trees (Sound d c) schema has it =
     let found = represented a trees d c schema has (subst (λ q. AreSound q trees d c) it.1 it.0) in
@@ -273,7 +273,7 @@ sound_is quick a trees (SoundButForCounts d c) schema has it =
 sound_is quick a trees (NotSound w) schema has it =
     (none_is quick a trees w has it, first_is quick a.tables trees w schema has it)
 
-pub ok_sound : {S E : Type 0} (quick : Bool) (a : ArchiveView S) (trees : Trees) (r : Result Verdict E)
+pub ok_sound : {S E : Type 0} (quick : Bool) (a : ArchiveView S) (trees : Trees) (r : Result CheckVerdict E)
     → a.tables.schema ≡ archive_schema → OnOk r (AreTreesOf a.tables trees) → IfOk r (FindsSound quick trees)
     → IfOk r (RepresentsSome quick a)
 ok_sound quick a trees (Ok v) schema has it = sound_is quick a trees v schema has it

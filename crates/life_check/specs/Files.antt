@@ -16,8 +16,8 @@ use Rattle.life_store.specs.Opening.{FilesHold, LeftHold, ShowsFound}
 use Rattle.life_store.specs.Tables.{ArchiveView, Holds, IsHealthyIfClean}
 use Rattle.life_desk.specs.Archive.{Archive}
 use Rattle.life_desk.specs.Represents.{Represents, kept_of}
-use Rattle.life_check.specs.declared.judging.Verdict.{Verdict}
-use Rattle.life_check.specs.declared.judging.Verdict.TheVariants.{Sound, SoundButForCounts, NotSound}
+use Rattle.life_check.specs.declared.judging.CheckVerdict.{CheckVerdict}
+use Rattle.life_check.specs.declared.judging.CheckVerdict.TheVariants.{Sound, SoundButForCounts, NotSound}
 use Rattle.life_check.specs.declared.judging.Wrong.{Wrong}
 use Rattle.life_check.specs.Listed.{AreWrongThere}
 use Rattle.life_check.specs.Sound.{IsAskedFor, HasUniqueTokens, RepresentsSome, RepresentsNone}
@@ -33,7 +33,7 @@ StaysSame {D} {g} a files = AreClean g files.log files.db → (image : Image) �
 -- image that a crash may leave of the files, and the one that they show, holds what the archive held, and the database
 -- that was there.
 pub record EndsCheck {D : Type 0} (quick : Bool) (g : disk.Ghosts D) (a : ArchiveView (FileStore D g))
-    (checked : Result Verdict Unavailable) (further : List Wrong) (files : Files D) : Type 0 where
+    (checked : Result CheckVerdict Unavailable) (further : List Wrong) (files : Files D) : Type 0 where
   pub honest : AreClean g files.log files.db → IsHonest over_files a
   pub finds : AreClean g files.log files.db → IfOk checked (RepresentsSome quick a)
   pub lists : AreClean g files.log files.db → AreWrongThere a.tables.deposits further
@@ -54,7 +54,8 @@ pub record IsFoundAt {D : Type 0} {g : disk.Ghosts D} (image : Image) (most : �
 -- Sound: an archive with this many deposits and this many censuses, which each image that a crash may leave of the
 -- files holds; or, of a quick check, an archive but for its counts. Otherwise: no archive, or none that requests can
 -- ask for.
-abbrev pub FindsIn : {D : Type 0} {g : disk.Ghosts D} → Bool → Files D → ArchiveView (FileStore D g) → Verdict → Type 0
+abbrev pub FindsIn : {D : Type 0} {g : disk.Ghosts D} → Bool → Files D → ArchiveView (FileStore D g) → CheckVerdict
+    → Type 0
 FindsIn {D} {g} quick files a (Sound d c) =
     (A : Archive) × Represents a A × (length A.deposits ≡ d) × (length A.censuses ≡ c) × LeftHold g files (kept_of A)
     × IsAskedFor A × HasUniqueTokens A × (quick ≡ false)
@@ -64,7 +65,7 @@ FindsIn quick files a (NotSound w) = RepresentsNone quick a w
 -- A check over the files of a path: what was found, and what the files hold then: what they held before, whosever
 -- database it is, and whatever the result.
 pub record IsPathCheck {D : Type 0} (quick : Bool) (g : disk.Ghosts D) (image : Image) (capacity : ℕ)
-    (checked : Result Verdict Unavailable) (further : List Wrong) (files : Files D) : Type 0 where
+    (checked : Result CheckVerdict Unavailable) (further : List Wrong) (files : Files D) : Type 0 where
   pub opened : ArchiveView (FileStore D g)
   pub opens : IsFoundAt image capacity opened
   pub finds : AreClean g files.log files.db → IfOk checked (FindsIn quick files opened)
@@ -78,7 +79,7 @@ abbrev pub CheckedFiles : Type 0 → Type 0
 CheckedFiles D = Option (Result (Files D) (Files D))
 
 -- The file could not be opened; or it was checked, whether that gave a result or not.
-abbrev pub ChecksPath : {D : Type 0} → Bool → disk.Ghosts D → Image → ℕ → Result Verdict Unavailable
+abbrev pub ChecksPath : {D : Type 0} → Bool → disk.Ghosts D → Image → ℕ → Result CheckVerdict Unavailable
     → List Wrong → CheckedFiles D → Type 0
 ChecksPath {D} quick g image capacity checked further left =
     ((e : Unavailable) × (checked ≡ Err e) × (refused : Option (Files D)) × (left ≡ option_map Err refused))

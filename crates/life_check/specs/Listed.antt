@@ -6,8 +6,8 @@ use Rattle.sqlite_trees.specs.View.{Finds}
 use Rattle.life_store.specs.declared.store_fault.Unavailable.{Unavailable}
 use Rattle.life_store.specs.declared.kept.Deposit.{Deposit}
 use Rattle.life_store.specs.Stored.{IsFiled}
-use Rattle.life_check.specs.declared.judging.Verdict.{Verdict}
-use Rattle.life_check.specs.declared.judging.Verdict.TheVariants.{Sound, SoundButForCounts, NotSound}
+use Rattle.life_check.specs.declared.judging.CheckVerdict.{CheckVerdict}
+use Rattle.life_check.specs.declared.judging.CheckVerdict.TheVariants.{Sound, SoundButForCounts, NotSound}
 use Rattle.life_check.specs.declared.judging.Wrong.{Wrong}
 use Rattle.life_check.specs.declared.judging.Wrong.TheVariants as wrong
 use Rattle.life_check.specs.ReadState.{IsNamed, deposit_row}
@@ -36,13 +36,13 @@ IsBeforeCensuses (wrong.DepositNames id) = ⊤
 IsBeforeCensuses (wrong.Census id) = ⊥
 
 -- the same of a verdict
-abbrev pub StopsBeforeCensuses : Verdict → Type 0
+abbrev pub StopsBeforeCensuses : CheckVerdict → Type 0
 StopsBeforeCensuses (Sound d c) = ⊥
 StopsBeforeCensuses (SoundButForCounts d c) = ⊥
 StopsBeforeCensuses (NotSound w) = IsBeforeCensuses w
 
 -- with the first error of a check at most 100 are listed, and none otherwise
-abbrev pub AreFurther : Result Verdict Unavailable → List Wrong → Type 0
+abbrev pub AreFurther : Result CheckVerdict Unavailable → List Wrong → Type 0
 AreFurther (Ok (Sound d c)) listed = listed ≡ []
 AreFurther (Ok (SoundButForCounts d c)) listed = listed ≡ []
 AreFurther (Ok (NotSound w)) listed = length listed < 100

@@ -13,8 +13,8 @@ use Rattle.life_jobs.specs.declared.stop.Stop.TheVariants.{Unavailable, Unwritab
 use Rattle.life_jobs.specs.JobStop as jobs
 use Rattle.life_jobs.specs.Streams.{PutsOnce}
 use Rattle.life_store.specs.declared.store_fault.Unavailable.{Unavailable as Failed}
-use Rattle.life_check.specs.declared.judging.Verdict.{Verdict}
-use Rattle.life_check.specs.declared.judging.Verdict.TheVariants.{Sound, SoundButForCounts, NotSound}
+use Rattle.life_check.specs.declared.judging.CheckVerdict.{CheckVerdict}
+use Rattle.life_check.specs.declared.judging.CheckVerdict.TheVariants.{Sound, SoundButForCounts, NotSound}
 use Rattle.life_check.specs.declared.judging.Wrong.{Wrong}
 use Rattle.life_check.specs.declared.judging.Wrong.TheVariants as wrong
 use Rattle.life_check.specs.Files.{CheckedFiles, ChecksPath}
@@ -38,29 +38,29 @@ abbrev pub error_line : Wrong → List ℕ
 error_line w = wrong_words w ++ line_feed ∷ []
 
 -- the result of a check
-abbrev pub verdict_words : Verdict → List ℕ
+abbrev pub verdict_words : CheckVerdict → List ℕ
 verdict_words (Sound d c) = codes "sound: " ++ (decimal d ++ (codes " deposits, " ++ (decimal c ++ codes " censuses")))
 verdict_words (SoundButForCounts d c) =
     codes "sound but for counts: " ++ (decimal d ++ (codes " deposits, " ++ (decimal c ++ codes " censuses")))
 verdict_words (NotSound w) = wrong_words w
 
 -- its line
-abbrev pub verdict_line : Verdict → List ℕ
+abbrev pub verdict_line : CheckVerdict → List ℕ
 verdict_line v = verdict_words v ++ line_feed ∷ []
 
 -- its line, and those of the errors after the first
-abbrev pub checked_lines : Verdict → List Wrong → List ℕ
+abbrev pub checked_lines : CheckVerdict → List Wrong → List ℕ
 checked_lines v further = verdict_line v ++ flat_map error_line further
 
 -- the answer once these were put
-abbrev pub answer_of : Verdict → Result (Unit {0}) CheckStop
+abbrev pub answer_of : CheckVerdict → Result (Unit {0}) CheckStop
 answer_of (Sound d c) = Ok tt
 answer_of (SoundButForCounts d c) = Ok tt
 answer_of (NotSound w) = Err stops.NotSound
 
 -- What is put and answered for the result and the errors after the first: their lines; a prefix of them, if a put
 -- failed; or nothing, if memory ran out.
-abbrev pub PutsVerdict : Verdict → List Wrong → Option (List ℕ) → Option (List ℕ)
+abbrev pub PutsVerdict : CheckVerdict → List Wrong → Option (List ℕ) → Option (List ℕ)
     → Result (Unit {0}) CheckStop → Type 0
 PutsVerdict v further before after answer =
     ((answer ≡ answer_of v) × Appends before after (checked_lines v further))
@@ -68,7 +68,7 @@ PutsVerdict v further before after answer =
     ⊎ (answer ≡ Err (stops.Job Unavailable)))
 
 -- The same of a check that gave no result.
-abbrev pub PutsChecked : Result Verdict Failed → List Wrong → Option (List ℕ) → Option (List ℕ)
+abbrev pub PutsChecked : Result CheckVerdict Failed → List Wrong → Option (List ℕ) → Option (List ℕ)
     → Result (Unit {0}) CheckStop → Type 0
 PutsChecked (Ok v) further before after answer = PutsVerdict v further before after answer
 PutsChecked (Err e) further before after answer = answer ≡ Err (stops.Job Unavailable)
@@ -97,7 +97,8 @@ line_after (Err stop) = Some (line_of stop)
 abbrev pub ChecksAt : {D : Type 0} → Bool → disk.Ghosts D → Image → ℕ → Option (List ℕ) → Option (List ℕ)
     → Result (Unit {0}) CheckStop → CheckedFiles D → Type 0
 ChecksAt quick g image capacity before after answer left =
-    (checked : Result Verdict Failed) × (further : List Wrong) × ChecksPath quick g image capacity checked further left
+    (checked : Result CheckVerdict Failed) × (further : List Wrong)
+    × ChecksPath quick g image capacity checked further left
     × AreFurther checked further × PutsChecked checked further before after answer
 
 -- ---- what the program prints

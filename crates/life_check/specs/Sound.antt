@@ -9,8 +9,8 @@ use Rattle.life_store.specs.Stored.{IsFiled, rows_by, deposit_cells, census_cell
 use Rattle.life_store.specs.Tables.{Tables, ArchiveView, version_2}
 use Rattle.life_desk.specs.Archive.{Archive, AddsUp}
 use Rattle.life_desk.specs.Represents.{Represents, EachHasDeposit}
-use Rattle.life_check.specs.declared.judging.Verdict.{Verdict}
-use Rattle.life_check.specs.declared.judging.Verdict.TheVariants.{Sound, SoundButForCounts, NotSound}
+use Rattle.life_check.specs.declared.judging.CheckVerdict.{CheckVerdict}
+use Rattle.life_check.specs.declared.judging.CheckVerdict.TheVariants.{Sound, SoundButForCounts, NotSound}
 use Rattle.life_check.specs.declared.judging.Wrong.{Wrong}
 use Rattle.life_check.specs.declared.judging.Wrong.TheVariants as wrong
 use Rattle.life_check.specs.ReadState.{AreOf, AreNone, AreNames, IsValidCensus, IsNamed, IsFirstWrong}
@@ -41,7 +41,7 @@ FindsWrong quick trees (wrong.Census id) =
     × (ds : List Deposit) × (trees 1 ≡ rows_by deposit_cells 1 ds) × AllByRecursion IsNamed ds
     × IsFirstWrongCensus quick (trees 3) (trees 5) (trees 7) ds id
 
-abbrev pub FindsSound : Bool → Trees → Verdict → Type 0
+abbrev pub FindsSound : Bool → Trees → CheckVerdict → Type 0
 FindsSound quick trees (Sound d c) = AreSound quick trees d c × (quick ≡ false)
 FindsSound quick trees (SoundButForCounts d c) = AreSound quick trees d c × (quick ≡ true)
 FindsSound quick trees (NotSound w) = FindsWrong quick trees w
@@ -114,7 +114,7 @@ RepresentsNone quick a w = AreNoArchive a w × IsFirstError quick a.tables w
 
 -- the tables represent an archive with this many deposits and censuses, but for its counts if the check is quick; or no
 -- archive
-abbrev pub RepresentsSome : {S : Type 0} → Bool → ArchiveView S → Verdict → Type 0
+abbrev pub RepresentsSome : {S : Type 0} → Bool → ArchiveView S → CheckVerdict → Type 0
 RepresentsSome quick a (Sound d c) =
     (A : Archive) × Represents a A × (length A.deposits ≡ d) × (length A.censuses ≡ c) × IsAskedFor A
     × HasUniqueTokens A × (quick ≡ false)

@@ -14,7 +14,7 @@ ghost use Rattle.life_check.specs.Listed.{AreFurther, AreWrongThere, StopsBefore
 ghost use Rattle.life_check.specs.Sound.{RepresentsSome};
 
 use crate::check_watch::CheckWatch;
-use crate::judging::{Verdict, Wrong, check};
+use crate::judging::{CheckVerdict, Wrong, check};
 use crate::listing::further_errors;
 use life_store::{Archive, Unavailable};
 use sqlite::{Alter, FileFrom, FileStore, Start};
@@ -26,7 +26,7 @@ fn errors_of<S: Alter, W: CheckWatch>(
     store: &mut S,
     alloc: Global,
     quick: bool,
-    checked: &Result<Verdict, Unavailable>,
+    checked: &Result<CheckVerdict, Unavailable>,
     watch: &mut W,
 ) -> Vec<Wrong>
     ensures few { AreFurther checked.now result.items }
@@ -38,9 +38,9 @@ fn errors_of<S: Alter, W: CheckWatch>(
         Err(_) => return Vec::new(alloc),
     };
     match verdict {
-        Verdict::Sound(_, _) => Vec::new(alloc),
-        Verdict::SoundButForCounts(_, _) => Vec::new(alloc),
-        Verdict::NotSound(first) => further_errors(store, alloc, quick, first, watch),
+        CheckVerdict::Sound(_, _) => Vec::new(alloc),
+        CheckVerdict::SoundButForCounts(_, _) => Vec::new(alloc),
+        CheckVerdict::NotSound(first) => further_errors(store, alloc, quick, first, watch),
     }
 }
 
@@ -50,7 +50,7 @@ fn check_and_list<S: Alter + Drop, W: CheckWatch>(
     archive: Archive<S>,
     quick: bool,
     watch: &mut W,
-) -> (Result<Verdict, Unavailable>, Vec<Wrong>, S)
+) -> (Result<CheckVerdict, Unavailable>, Vec<Wrong>, S)
     ensures sound { IsClean (S.Store.view result.2) → IfOk result.0 (RepresentsSome quick archive) }
     ensures further { AreFurther result.0 result.1.items }
     ensures wrong { IsClean (S.Store.view result.2) → AreWrongThere archive.tables.deposits result.1.items }
@@ -74,7 +74,7 @@ fn check_opened<D: Disk + Drop, W: CheckWatch>(
     archive: Archive<FileStore<D>>,
     quick: bool,
     watch: &mut W,
-) -> (Result<Verdict, Unavailable>, Vec<Wrong>, Files<D>)
+) -> (Result<CheckVerdict, Unavailable>, Vec<Wrong>, Files<D>)
     ensures check { EndsCheck quick D.Disk archive result.0 result.1.items result.2 }
     ensures further { AreFurther result.0 result.1.items }
 {
@@ -96,7 +96,11 @@ pub fn check_path<T: Start, W: CheckWatch>(
     start: T,
     quick: bool,
     watch: &mut W,
-) -> (Result<Verdict, Unavailable>, Vec<Wrong>, CheckedFiles<T>)
+) -> (
+    Result<CheckVerdict, Unavailable>,
+    Vec<Wrong>,
+    CheckedFiles<T>,
+)
     ensures check { ChecksPath quick ⟦<FileFrom<T> as Disk>⟧ (image_at T.Start) capacity result.0 result.1.items result.2 }
     ensures further { AreFurther result.0 result.1.items }
 {

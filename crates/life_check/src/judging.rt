@@ -42,7 +42,7 @@ pub enum Wrong {
 
 /// The result of checking an archive.
 #[derive(Clone, Copy, Debug, PartialEq, Eq)]
-pub enum Verdict {
+pub enum CheckVerdict {
     /// The tables represent an archive with this many deposits and this many censuses.
     Sound(u64, u64),
     /// The same but for the tallies and the flags of the censuses, which a quick check doesn't count: each has some tally that adds up.
@@ -88,28 +88,28 @@ pub fn check_trees<S: Alter, W: CheckWatch>(
     alloc: Global,
     quick: bool,
     watch: &mut W,
-) -> Result<Verdict, Unavailable>
+) -> Result<CheckVerdict, Unavailable>
     ensures sound { IsClean (S.Store.view store.new) → IfOk result (FindsSound quick (S.Store.view store.old).trees) }
     ensures unbroken { IsClean (S.Store.view store.new) → OnOk result ((S.Store.view store.old).is_broken ≡ false) }
     ensures deposits { IsClean (S.Store.view store.new) → IfOk result (λ v. StopsBeforeCensuses v → (S.Store.view store.new).trees 1 ≡ (S.Store.view store.old).trees 1) }
     ensures calm { IsCalm S.Store store.old store.new }
 {
     if !is_layout(store, alloc)? {
-        return Ok(Verdict::NotSound(Wrong::Layout));
+        return Ok(CheckVerdict::NotSound(Wrong::Layout));
     }
     let deposits = match deposits(store, alloc, watch)? {
         Found::All(count) => count,
-        Found::Wrong(id) => return Ok(Verdict::NotSound(Wrong::Deposit(id))),
-        Found::Misnamed(id) => return Ok(Verdict::NotSound(Wrong::DepositNames(id))),
+        Found::Wrong(id) => return Ok(CheckVerdict::NotSound(Wrong::Deposit(id))),
+        Found::Misnamed(id) => return Ok(CheckVerdict::NotSound(Wrong::DepositNames(id))),
     };
     let censuses = match censuses(store, alloc, quick, watch)? {
         FoundCensuses::All(count) => count,
-        FoundCensuses::Wrong(id) => return Ok(Verdict::NotSound(Wrong::Census(id))),
+        FoundCensuses::Wrong(id) => return Ok(CheckVerdict::NotSound(Wrong::Census(id))),
     };
     if quick {
-        return Ok(Verdict::SoundButForCounts(deposits, censuses));
+        return Ok(CheckVerdict::SoundButForCounts(deposits, censuses));
     }
-    Ok(Verdict::Sound(deposits, censuses))
+    Ok(CheckVerdict::Sound(deposits, censuses))
 }
 
 /// Whether the tables are those of a new archive, with the same columns, checks and indexes.
@@ -128,7 +128,7 @@ fn check_rows<S: Alter + Drop, W: CheckWatch>(
     alloc: Global,
     quick: bool,
     watch: &mut W,
-) -> (Result<Verdict, Unavailable>, S)
+) -> (Result<CheckVerdict, Unavailable>, S)
     ensures sound { IsClean (S.Store.view result.1) → archive.tables.schema ≡ archive_schema → IfOk result.0 (RepresentsSome quick archive) }
     ensures deposits { IsClean (S.Store.view result.1) → IfOk result.0 (λ v. StopsBeforeCensuses v → (S.Store.view result.1).trees 1 ≡ archive.tables.deposits) }
     ensures calm { IsCalm S.Store archive.store result.1 }
@@ -166,7 +166,7 @@ pub fn check<S: Alter + Drop, W: CheckWatch>(
     alloc: Global,
     quick: bool,
     watch: &mut W,
-) -> (Result<Verdict, Unavailable>, S)
+) -> (Result<CheckVerdict, Unavailable>, S)
     ensures sound { IsClean (S.Store.view result.1) → IfOk result.0 (RepresentsSome quick archive) }
     ensures deposits { IsClean (S.Store.view result.1) → IfOk result.0 (λ v. StopsBeforeCensuses v → (S.Store.view result.1).trees 1 ≡ archive.tables.deposits) }
     ensures calm { IsCalm S.Store archive.store result.1 }
@@ -175,7 +175,7 @@ pub fn check<S: Alter + Drop, W: CheckWatch>(
 {
     match has_schema(&archive, alloc) {
         Ok(true) => check_rows(archive, alloc, quick, watch),
-        Ok(false) => (Ok(Verdict::NotSound(Wrong::Tables)), store_of(archive)),
+        Ok(false) => (Ok(CheckVerdict::NotSound(Wrong::Tables)), store_of(archive)),
         Err(_) => (Err(Unavailable), store_of(archive)),
     }
 }

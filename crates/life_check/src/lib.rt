@@ -17,6 +17,6 @@ mod walk;
 
 pub use check_watch::{CheckWatch, Unwatched};
 pub use checked_files::{CheckedFiles, check_path};
-pub use judging::{Verdict, Wrong, check, check_trees, law_of_unique_tokens};
+pub use judging::{CheckVerdict, Wrong, check, check_trees, law_of_unique_tokens};
 pub use listing::further_errors;
 pub use report::{CheckStop, run_check};

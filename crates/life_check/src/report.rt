@@ -8,7 +8,7 @@ ghost use Rattle.life_check.specs.Report.{line_of, wrong_words, error_line, verd
 
 use crate::check_watch::CheckWatch;
 use crate::checked_files::{CheckedFiles, check_path};
-use crate::judging::{Verdict, Wrong};
+use crate::judging::{CheckVerdict, Wrong};
 use life_jobs::{Stop, put_text};
 use life_rle::Outlet;
 use life_store::Unavailable;
@@ -74,26 +74,26 @@ fn push_errors(alloc: Global, errors: &[Wrong], lines: &mut Vec<u8>) -> Result<(
 }
 
 /// The result of a check, in words.
-fn verdict_words(alloc: Global, verdict: Verdict) -> Result<Vec<u8>, AllocError>
+fn verdict_words(alloc: Global, verdict: CheckVerdict) -> Result<Vec<u8>, AllocError>
     ensures { IfOk result (λ v. v.items ≡ verdict_words verdict) }
 {
     match verdict {
-        Verdict::Sound(deposits, censuses) => {
+        CheckVerdict::Sound(deposits, censuses) => {
             let words = format!(in alloc; "sound: {deposits} deposits, {censuses} censuses")?;
             Ok(words.into_bytes())
         }
-        Verdict::SoundButForCounts(deposits, censuses) => {
+        CheckVerdict::SoundButForCounts(deposits, censuses) => {
             let words = format!(in alloc;
                 "sound but for counts: {deposits} deposits, {censuses} censuses"
             )?;
             Ok(words.into_bytes())
         }
-        Verdict::NotSound(wrong) => wrong_words(alloc, wrong),
+        CheckVerdict::NotSound(wrong) => wrong_words(alloc, wrong),
     }
 }
 
 /// The line of the result.
-fn verdict_line(alloc: Global, verdict: Verdict) -> Result<Vec<u8>, AllocError>
+fn verdict_line(alloc: Global, verdict: CheckVerdict) -> Result<Vec<u8>, AllocError>
     ensures { IfOk result (λ v. v.items ≡ verdict_line verdict) }
 {
     let mut line = verdict_words(alloc, verdict)?;
@@ -102,7 +102,11 @@ fn verdict_line(alloc: Global, verdict: Verdict) -> Result<Vec<u8>, AllocError>
 }
 
 /// The line of the result, and those of the errors after the first.
-fn checked_lines(alloc: Global, verdict: Verdict, further: &[Wrong]) -> Result<Vec<u8>, AllocError>
+fn checked_lines(
+    alloc: Global,
+    verdict: CheckVerdict,
+    further: &[Wrong],
+) -> Result<Vec<u8>, AllocError>
     ensures { IfOk result (λ v. v.items ≡ checked_lines verdict further.now) }
 {
     let mut lines = verdict_line(alloc, verdict)?;
@@ -111,20 +115,20 @@ fn checked_lines(alloc: Global, verdict: Verdict, further: &[Wrong]) -> Result<V
 }
 
 /// The answer once the lines of the result were put.
-fn answer_of(verdict: Verdict) -> Result<(), CheckStop>
+fn answer_of(verdict: CheckVerdict) -> Result<(), CheckStop>
     ensures { result ≡ answer_of verdict }
 {
     match verdict {
-        Verdict::Sound(_, _) => Ok(()),
-        Verdict::SoundButForCounts(_, _) => Ok(()),
-        Verdict::NotSound(_) => Err(CheckStop::NotSound),
+        CheckVerdict::Sound(_, _) => Ok(()),
+        CheckVerdict::SoundButForCounts(_, _) => Ok(()),
+        CheckVerdict::NotSound(_) => Err(CheckStop::NotSound),
     }
 }
 
 /// Writes the line of the result, and those of the errors after the first.
 fn put_verdict<O: Outlet>(
     alloc: Global,
-    verdict: Verdict,
+    verdict: CheckVerdict,
     further: &[Wrong],
     output: &mut O,
 ) -> Result<(), Stop>
@@ -140,7 +144,7 @@ fn put_verdict<O: Outlet>(
 /// Writes the lines of a check, if it gave a result, and returns what the job answers.
 fn put_checked<O: Outlet>(
     alloc: Global,
-    checked: Result<Verdict, Unavailable>,
+    checked: Result<CheckVerdict, Unavailable>,
     further: &[Wrong],
     output: &mut O,
 ) -> Result<(), CheckStop>

@@ -1,6 +1,6 @@
 //! A sound archive and, for each table and column, one that is damaged there, by SQL that all constraints of the tables allow.
 use crate::check_watch::Unwatched;
-use crate::judging::{Verdict, Wrong, check_trees};
+use crate::judging::{CheckVerdict, Wrong, check_trees};
 use crate::listing::further_errors;
 use sqlite::{Connection, Error, MemStore};
 use std::alloc::Global;
@@ -189,7 +189,7 @@ fn store_with(alloc: Global, changes: &[&str]) -> Result<MemStore, Error> {
 }
 
 /// The result, or the statement that was refused.
-fn found(alloc: Global, changes: &[&str], quick: bool) -> Result<Verdict, Error> {
+fn found(alloc: Global, changes: &[&str], quick: bool) -> Result<CheckVerdict, Error> {
     let mut store = store_with(alloc, changes)?;
     match check_trees(&mut store, alloc, quick, &mut Unwatched) {
         Ok(verdict) => Ok(verdict),
@@ -200,7 +200,8 @@ fn found(alloc: Global, changes: &[&str], quick: bool) -> Result<Verdict, Error>
 /// The first error, and those after it.
 fn listed(alloc: Global, changes: &[&str], quick: bool) -> Result<(Wrong, Vec<Wrong>), Error> {
     let mut store = store_with(alloc, changes)?;
-    let Ok(Verdict::NotSound(first)) = check_trees(&mut store, alloc, quick, &mut Unwatched) else {
+    let Ok(CheckVerdict::NotSound(first)) = check_trees(&mut store, alloc, quick, &mut Unwatched)
+    else {
         return Err(Error::QueryReturnedNoRows);
     };
     let further = further_errors(&mut store, alloc, quick, first, &mut Unwatched);
@@ -209,15 +210,18 @@ fn listed(alloc: Global, changes: &[&str], quick: bool) -> Result<(Wrong, Vec<Wr
 
 #[test]
 fn an_archive_is_sound(rt: HostRuntime) -> Result<(), Fail> {
-    assert_eq!(rt; found(rt.alloc(), &[], false), Ok(Verdict::Sound(2, 2)));
+    assert_eq!(rt;
+        found(rt.alloc(), &[], false),
+        Ok(CheckVerdict::Sound(2, 2))
+    );
     assert_eq!(rt;
         found(rt.alloc(), &[], true),
-        Ok(Verdict::SoundButForCounts(2, 2))
+        Ok(CheckVerdict::SoundButForCounts(2, 2))
     );
     for statement in OTHERS {
         assert_eq!(rt;
             found(rt.alloc(), &[statement], false),
-            Ok(Verdict::Sound(2, 2)),
+            Ok(CheckVerdict::Sound(2, 2)),
             "{statement}"
         );
     }
@@ -229,7 +233,7 @@ fn each_damage_is_found(rt: HostRuntime) -> Result<(), Fail> {
     for (statement, wrong) in DAMAGED {
         assert_eq!(rt;
             found(rt.alloc(), &[statement], false),
-            Ok(Verdict::NotSound(wrong)),
+            Ok(CheckVerdict::NotSound(wrong)),
             "{statement}"
         );
     }
@@ -241,14 +245,14 @@ fn a_quick_check_counts_nothing(rt: HostRuntime) -> Result<(), Fail> {
     for statement in UNCOUNTED {
         assert_eq!(rt;
             found(rt.alloc(), &[statement], true),
-            Ok(Verdict::SoundButForCounts(2, 2)),
+            Ok(CheckVerdict::SoundButForCounts(2, 2)),
             "{statement}"
         );
     }
     for (statement, wrong) in FOUND_QUICKLY {
         assert_eq!(rt;
             found(rt.alloc(), &[statement], true),
-            Ok(Verdict::NotSound(wrong)),
+            Ok(CheckVerdict::NotSound(wrong)),
             "{statement}"
         );
     }

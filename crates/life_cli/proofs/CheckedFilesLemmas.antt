@@ -10,8 +10,8 @@ use Rattle.life_rle.specs.Stream.{Appends}
 use Rattle.life_store.specs.declared.store_fault.Unavailable.{Unavailable as Failed}
 use Rattle.life_desk.specs.Archive.{Archive}
 use Rattle.life_desk.proofs.Representing.{each_of}
-use Rattle.life_check.specs.declared.judging.Verdict.{Verdict}
-use Rattle.life_check.specs.declared.judging.Verdict.TheVariants.{Sound, SoundButForCounts, NotSound}
+use Rattle.life_check.specs.declared.judging.CheckVerdict.{CheckVerdict}
+use Rattle.life_check.specs.declared.judging.CheckVerdict.TheVariants.{Sound, SoundButForCounts, NotSound}
 use Rattle.life_check.specs.declared.judging.Wrong.{Wrong}
 use Rattle.life_check.specs.Files.{ChecksPath, IsPathCheck}
 use Rattle.life_check.specs.Listed.{AreFurther}
@@ -34,7 +34,7 @@ append_none [] = refl
 append_none (x ∷ xs) = ap (λ all. x ∷ all) (append_none xs)
 
 -- without further errors it is one line
-one_line : (v : Verdict) (further : List Wrong) → further ≡ [] → checked_lines v further ≡ verdict_line v
+one_line : (v : CheckVerdict) (further : List Wrong) → further ≡ [] → checked_lines v further ≡ verdict_line v
 one_line v further none = ap (checked_lines v) none ∙ append_none (verdict_line v)
 
 closed_is : {A : Type 0} (left : Option (Result A A)) (x y : A) → left ≡ Some (Ok x) → left ≡ Some (Ok y) → x ≡ y
@@ -45,7 +45,8 @@ module _ {D E : Type 0} (g : disk.Ghosts D) (h : disk.Ghosts E) (image again : I
     (two : PathJob h again next left)
     (clean : AreClean g files.log files.db) (may : outcomes g files.log files.db again) where
   -- the verdict was sound
-  begins : (v : Verdict) (further : List Wrong) → AreFurther (Ok v) further → PutsVerdict v further before after (Ok tt)
+  begins : (v : CheckVerdict) (further : List Wrong) → AreFurther (Ok v) further
+      → PutsVerdict v further before after (Ok tt)
       → (one : IsPathCheck false g image capacity (Ok v) further files)
       → (A : Archive) × Appends before after (verdict_line (Sound (length A.deposits) (length A.censuses)))
       × LeavesOne h (BecomesBy two (under next A)) left
@@ -65,7 +66,7 @@ module _ {D E : Type 0} (g : disk.Ghosts D) (h : disk.Ghosts E) (image again : I
     | inr others ↦ elim others [ inl it ↦ absurd (done_is_no_stop it.0) | inr it ↦ absurd (done_is_no_stop it) ]
   ]
 
-  begins_with : (checked : Result Verdict Failed) (further : List Wrong)
+  begins_with : (checked : Result CheckVerdict Failed) (further : List Wrong)
       → ChecksPath false g image capacity checked further (Some (Ok files)) → AreFurther checked further
       → PutsChecked checked further before after (Ok tt)
       → (A : Archive) × Appends before after (verdict_line (Sound (length A.deposits) (length A.censuses)))

@@ -7,7 +7,7 @@ use Rattle.sqlite_wal.specs.Reads.{AreClean}
 use Rattle.sqlite_wal.specs.Recovery.{Image}
 use Rattle.life_rle.specs.Stream.{Appends}
 use Rattle.life_desk.specs.Archive.{Archive}
-use Rattle.life_check.specs.declared.judging.Verdict.TheVariants.{Sound}
+use Rattle.life_check.specs.declared.judging.CheckVerdict.TheVariants.{Sound}
 use Rattle.life_check.specs.Report.{verdict_line, ChecksAt}
 use Rattle.life_archive.specs.ArchivePath.{PathJob, BecomesBy, LeavesOne}
 use Rattle.life_archive.specs.Session.{under}

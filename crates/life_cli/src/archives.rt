@@ -5,7 +5,7 @@ ghost use Rattle.life_archive.specs.ArchivePath.{AnswersDeposit, AnswersServing,
 ghost use Rattle.life_check.specs.Report.{AnswersCheck, line_after as line_after_check};
 
 use crate::check_progress::CheckProgress;
-use crate::net::Port;
+use crate::net::PortConnections;
 use crate::reason::reason_of;
 use life_archive::{ArchiveStop, deposit_path, serve_path};
 use life_check::{CheckStop, run_check};
@@ -73,7 +73,7 @@ impl<T: Start> ArchiveJobs for ArchiveFile<T> {
         port: u64,
         connections: u64,
     ) -> Result<(), &'static str> {
-        let mut peers = Port::new(rt, port);
+        let mut peers = PortConnections::new(rt, port);
         let (done, _left) = serve_path(rt, file, CAPACITY, self.start, &mut peers, connections);
         or_line(done)
     }

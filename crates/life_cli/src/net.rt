@@ -70,7 +70,7 @@ fn serve_next<S: Alter>(
 
 /// The connections to a port. The program listens there once the archive is open.
 #[derive(Drop)]
-pub struct Port<'a> {
+pub struct PortConnections<'a> {
     rt: &'a HostRuntime,
     port: u64,
     listener: Option<TcpListener>,
@@ -78,12 +78,12 @@ pub struct Port<'a> {
     failures: u64,
 }
 
-impl<'a> Port<'a> {
+impl<'a> PortConnections<'a> {
     /// The port, before the program listens there.
-    pub fn new(rt: &'a HostRuntime, port: u64) -> Port<'a>
-        ensures { ⟦<Port<'static> as Connections>⟧.traffic result ≡ unknown 0 }
+    pub fn new(rt: &'a HostRuntime, port: u64) -> PortConnections<'a>
+        ensures { ⟦<PortConnections<'static> as Connections>⟧.traffic result ≡ unknown 0 }
     {
-        Port {
+        PortConnections {
             rt,
             port,
             listener: None,
@@ -92,7 +92,7 @@ impl<'a> Port<'a> {
     }
 }
 
-impl Connections for Port<'_> {
+impl Connections for PortConnections<'_> {
     // The bytes of a socket are unknown; only the number of failed connections is tracked.
     ghost traffic = { λ s. unknown s.failures };
 

@@ -5,12 +5,12 @@ use Rattle.life_rle.specs.declared.stream.Outlet as outlet
 use Rattle.life_jobs.specs.declared.stop.Stop.{Stop}
 use Rattle.life_jobs.specs.Streams.{PutsOnce}
 use Rattle.life_program.specs.Job.{IsStatus}
-use Rattle.life_hauls.specs.declared.haul_arguments.Job.{Job}
+use Rattle.life_hauls.specs.declared.haul_arguments.HaulJob.{HaulJob}
 use Rattle.life_hauls.specs.HaulWords.{Asked, asked_by}
 use Rattle.life_hauls.specs.HaulProgram.{DoesJob, HaulEnd, does}
 
 module _ {O E : Type 0} (o : outlet.Ghosts O) (words : Option Asked) (output sent : O) (result : Result ExitCode E)
-    (job : Job) where
+    (job : HaulJob) where
   pub ends_by : (answer : Result (Unit {0}) Stop) → words ≡ Some (asked_by job)
       → DoesJob job (o.already output) (o.already sent) answer
       → PutsOnce output sent (o.failures output) (o.failures sent) (o.last_failed sent) answer

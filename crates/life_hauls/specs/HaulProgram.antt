@@ -10,8 +10,8 @@ use Rattle.life_jobs.specs.declared.stop.Stop.TheVariants.{OutOfLimit, BadRule}
 use Rattle.life_jobs.specs.PatternJobs.{RefusesRule}
 use Rattle.life_jobs.specs.Streams.{PutsOnce}
 use Rattle.life_program.specs.Job.{IsStatus, line_after, status_after, status_by}
-use Rattle.life_hauls.specs.declared.haul_arguments.Job.{Job}
-use Rattle.life_hauls.specs.declared.haul_arguments.Job.TheVariants.{Haul, Soup}
+use Rattle.life_hauls.specs.declared.haul_arguments.HaulJob.{HaulJob}
+use Rattle.life_hauls.specs.declared.haul_arguments.HaulJob.TheVariants.{Haul, Soup}
 use Rattle.life_hauls.specs.HaulJobs.{MayBeAsked, PutsHaul, MaySoupBeAsked, PutsSoup}
 use Rattle.life_hauls.specs.HaulWords.{Asked, asked_by}
 
@@ -23,7 +23,7 @@ pub record DoesIfAsked (MayBe : Type 0) (rule : List ℕ) (Puts : Result (Unit {
   pub puts : Puts answer
 
 -- a haul puts its table, and a soup its pattern file
-abbrev pub DoesJob : Job → Option (List ℕ) → Option (List ℕ) → Result (Unit {0}) Stop → Type 0
+abbrev pub DoesJob : HaulJob → Option (List ℕ) → Option (List ℕ) → Result (Unit {0}) Stop → Type 0
 DoesJob (Haul words) old new = DoesIfAsked (MayBeAsked words) words.rule.now (PutsHaul words old new)
 DoesJob (Soup words) old new = DoesIfAsked (MaySoupBeAsked words) words.rule.now (PutsSoup words old new)
 
@@ -32,7 +32,7 @@ DoesJob (Soup words) old new = DoesIfAsked (MaySoupBeAsked words) words.rule.now
 -- job, a usage error.
 pub data HaulEnd {O E : Type 0} (o : outlet.Ghosts O) (words : Option Asked) (output sent : O)
     (result : Result ExitCode E) : Type 0 where
-  does : (job : Job) (answer : Result (Unit {0}) Stop) → words ≡ Some (asked_by job)
+  does : (job : HaulJob) (answer : Result (Unit {0}) Stop) → words ≡ Some (asked_by job)
       → DoesJob job (o.already output) (o.already sent) answer
       → PutsOnce output sent (o.failures output) (o.failures sent) (o.last_failed sent) answer
       → IsStatus result (status_after (line_after answer)) → HaulEnd o words output sent result

@@ -9,8 +9,8 @@ use Rattle.life_words.specs.Words.{with_version, number_rule, text_rule, number_
 use Rattle.life_hauls.specs.declared.symmetry.Symmetry.{Symmetry}
 use Rattle.life_hauls.specs.declared.symmetry.Symmetry.TheVariants.{C1}
 use Rattle.life_hauls.specs.Soups.{symmetry_named}
-use Rattle.life_hauls.specs.declared.haul_arguments.Job.{Job}
-use Rattle.life_hauls.specs.declared.haul_arguments.Job.TheVariants.{Haul, Soup}
+use Rattle.life_hauls.specs.declared.haul_arguments.HaulJob.{HaulJob}
+use Rattle.life_hauls.specs.declared.haul_arguments.HaulJob.TheVariants.{Haul, Soup}
 
 -- the option `--rule RULE`
 abbrev pub rule_rule : Rule
@@ -51,7 +51,7 @@ pub data Asked : Type 0 where
   AsksSoup : (root : Text) (number : ℕ) (rule : Text) (symmetry : Symmetry) → Asked
 
 -- what a job asks for
-abbrev pub asked_by : Job → Asked
+abbrev pub asked_by : HaulJob → Asked
 asked_by (Haul words) =
     AsksHaul words.root.now words.first words.count words.rule.now words.symmetry words.n words.limit
 asked_by (Soup words) = AsksSoup words.root.now words.number words.rule.now words.symmetry

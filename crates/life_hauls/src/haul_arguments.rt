@@ -47,7 +47,7 @@ Example: life-haul soup abc 17";
 
 /// What to do.
 #[derive(Clone, Copy, Debug, PartialEq, Eq)]
-pub enum Job<'a> {
+pub enum HaulJob<'a> {
     /// Print the table of a haul.
     Haul(HaulWords<'a>),
     /// Print a soup.
@@ -163,10 +163,10 @@ fn symmetry_in(found: &ArgMatches<'_>) -> Option<Symmetry>
 }
 
 // The haul of the arguments that were found.
-fn haul_in<'a>(found: &ArgMatches<'a>) -> Option<Job<'a>>
+fn haul_in<'a>(found: &ArgMatches<'a>) -> Option<HaulJob<'a>>
     ensures { option_map asked_by result ≡ haul_of_rows (rows_of (found_of found.now)) }
 {
-    Some(Job::Haul(HaulWords {
+    Some(HaulJob::Haul(HaulWords {
         root: text_in(found, "ROOT")?,
         first: number_in(found, "FIRST")?,
         count: number_in(found, "COUNT")?,
@@ -178,10 +178,10 @@ fn haul_in<'a>(found: &ArgMatches<'a>) -> Option<Job<'a>>
 }
 
 // The soup of the arguments that were found.
-fn soup_in<'a>(found: &ArgMatches<'a>) -> Option<Job<'a>>
+fn soup_in<'a>(found: &ArgMatches<'a>) -> Option<HaulJob<'a>>
     ensures { option_map asked_by result ≡ soup_of_rows (rows_of (found_of found.now)) }
 {
-    Some(Job::Soup(SoupWords {
+    Some(HaulJob::Soup(SoupWords {
         root: text_in(found, "ROOT")?,
         number: number_in(found, "NUMBER")?,
         rule: rule_in(found),
@@ -190,7 +190,7 @@ fn soup_in<'a>(found: &ArgMatches<'a>) -> Option<Job<'a>>
 }
 
 // The job of the subcommand of this name.
-fn job_named<'a>(name: &str, found: &ArgMatches<'a>) -> Option<Job<'a>>
+fn job_named<'a>(name: &str, found: &ArgMatches<'a>) -> Option<HaulJob<'a>>
     ensures { option_map asked_by result ≡ job_named name.now (rows_of (found_of found.now)) }
 {
     match name {
@@ -200,7 +200,7 @@ fn job_named<'a>(name: &str, found: &ArgMatches<'a>) -> Option<Job<'a>>
 }
 
 // The job of the arguments that were found. There may be none in front of a subcommand.
-fn job_in<'a>(matches: &ArgMatches<'a>) -> Option<Job<'a>>
+fn job_in<'a>(matches: &ArgMatches<'a>) -> Option<HaulJob<'a>>
     ensures { option_map asked_by result ≡ job_of (rows_of (found_of matches.now)) (subcommand_rows_of matches.now) }
 {
     let Some((name, found)) = matches.subcommand() else {
@@ -239,7 +239,10 @@ fn no_job(alloc: Global, matches: &ArgMatches<'_>) -> Result<Error, AllocError> 
 /// The job that the arguments name. The first one is the program's name, as in `env::args`.
 ///
 /// A request for help is also a fault: `BadWords` with the text of the help.
-pub fn read_words<'a, S: AsStr>(alloc: Global, words: &'a [S]) -> Result<Job<'a>, WordFault>
+pub fn read_haul_words<'a, S: AsStr>(
+    alloc: Global,
+    words: &'a [S],
+) -> Result<HaulJob<'a>, WordFault>
     ensures { Answers asked_by (words_job (map S.text words.entry.now)) result }
 {
     let matches = read_matches(haul_command(alloc), words)?;

@@ -5,7 +5,7 @@ ghost use Rattle.life_jobs.specs.Streams.{PutsOnce};
 ghost use Rattle.life_hauls.specs.HaulWords.{words_job};
 ghost use Rattle.life_hauls.specs.HaulProgram.{DoesJob, HaulEnd};
 
-use crate::haul_arguments::{Job, haul_command, read_words};
+use crate::haul_arguments::{HaulJob, haul_command, read_haul_words};
 use crate::haul_jobs::{run_haul, run_soup};
 use crate::haul_watch::HaulWatch;
 use life_jobs::Stop;
@@ -20,7 +20,7 @@ use std::process::ExitCode;
 /// Does the job. The watch gets the progress of a haul.
 fn do_job<O: Outlet, W: HaulWatch>(
     alloc: Global,
-    job: Job<'_>,
+    job: HaulJob<'_>,
     output: &mut O,
     watch: &mut W,
 ) -> Result<(), Stop>
@@ -28,8 +28,8 @@ fn do_job<O: Outlet, W: HaulWatch>(
     ensures once { PutsOnce output.old output.new (O.failures output.old) (O.failures output.new) (O.last_failed output.new) result }
 {
     match job {
-        Job::Haul(words) => run_haul(alloc, words, output, watch),
-        Job::Soup(words) => run_soup(alloc, words, output),
+        HaulJob::Haul(words) => run_haul(alloc, words, output, watch),
+        HaulJob::Soup(words) => run_soup(alloc, words, output),
     }
 }
 
@@ -53,7 +53,7 @@ pub fn run_words<O: Outlet, W: HaulWatch>(
 ) -> io::Result<ExitCode>
     ensures { HaulEnd O.Outlet (words_job (map ⟦<String as AsStr>⟧.text words.now)) output.old output.new result }
 {
-    match read_words(rt.alloc(), words) {
+    match read_haul_words(rt.alloc(), words) {
         Ok(job) => {
             let done = do_job(rt.alloc(), job, output, watch);
             watch.ended();

@@ -13,7 +13,7 @@ mod soup_counting;
 mod soups;
 mod symmetry;
 
-pub use haul_arguments::{Job, haul_command, read_words};
+pub use haul_arguments::{HaulJob, haul_command, read_haul_words};
 pub use haul_jobs::{COUNT_LIMIT, FIRST_LIMIT, HaulWords, SoupWords, run_haul, run_soup};
 pub use haul_laws::{laws_of_hauls, laws_of_limits, laws_of_soups};
 pub use haul_program::{run_program, run_words};

@@ -96,7 +96,7 @@ fn picture_in(matches: &ArgMatches<'_>) -> Option<Picture>
 /// The picture that the arguments name. The first one is the program's name, as in `env::args`.
 ///
 /// A request for help is also a fault: `BadWords` with the text of the help.
-pub fn read_words<S: AsStr>(alloc: Global, words: &[S]) -> Result<Picture, WordFault>
+pub fn read_draw_words<S: AsStr>(alloc: Global, words: &[S]) -> Result<Picture, WordFault>
     ensures { Answers (λ picture. picture) (words_picture (map S.text words.entry.now)) result }
 {
     let matches = read_matches(draw_command(alloc), words)?;

@@ -4,7 +4,7 @@ ghost use Rattle.life_program.specs.Job.{IsStatus};
 ghost use Rattle.life_pictures.specs.DrawWords.{words_picture};
 ghost use Rattle.life_pictures.specs.DrawProgram.{DrawEnd};
 
-use crate::draw_arguments::{draw_command, read_words};
+use crate::draw_arguments::{draw_command, read_draw_words};
 use crate::draw_job::run_draw;
 use life_jobs::Stop;
 use life_program::{print_fault, print_fault_of, print_stop};
@@ -16,7 +16,7 @@ use std::process::ExitCode;
 
 /// Whether these arguments name a picture. Each picture is one of the pattern on standard input.
 fn reads_pattern(rt: &HostRuntime, words: &[String]) -> bool {
-    read_words(rt.alloc(), words).is_ok()
+    read_draw_words(rt.alloc(), words).is_ok()
 }
 
 /// The status after drawing; prints the line of a stop on standard error.
@@ -39,7 +39,7 @@ pub fn run_words<I: Inlet, O: Outlet>(
 ) -> io::Result<ExitCode>
     ensures { DrawEnd I.Inlet O.Outlet (words_picture (map ⟦<String as AsStr>⟧.text words.now)) input.old input.new output.old output.new result }
 {
-    match read_words(rt.alloc(), words) {
+    match read_draw_words(rt.alloc(), words) {
         Ok(picture) => print_done(rt, run_draw(rt.alloc(), picture, input, output)),
         Err(fault) => print_fault_of(rt, fault, words, |words| reads_pattern(rt, words)),
     }

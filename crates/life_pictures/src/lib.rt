@@ -15,7 +15,7 @@ mod picture_runs;
 mod title;
 
 pub use document::svg;
-pub use draw_arguments::{draw_command, read_words};
+pub use draw_arguments::{draw_command, read_draw_words};
 pub use draw_job::{Picture, run_draw};
 pub use draw_program::{run_program, run_words};
 pub use picture_frames::{MOST_FRAMES, animation};

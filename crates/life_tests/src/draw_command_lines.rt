@@ -1,6 +1,6 @@
 //! Command lines of `life-draw`, and the pictures that their arguments name.
 use crate::arguments::{is_named, other_line};
-use life_pictures::{Picture, read_words};
+use life_pictures::{Picture, read_draw_words};
 use std::alloc::Global;
 
 /// Command lines, and the picture that each names; `None` for a usage error.
@@ -22,7 +22,7 @@ const LINES: [(&str, Option<Picture>); 10] = [
 
 /// Whether the arguments name the picture, or are a usage error if there is none.
 fn name(alloc: Global, words: &[&str], picture: Option<Picture>) -> bool {
-    is_named(read_words(alloc, words), picture)
+    is_named(read_draw_words(alloc, words), picture)
 }
 
 #[test]

@@ -1,6 +1,6 @@
 //! Command lines of `life-haul`, and the jobs that their arguments name.
 use crate::arguments::{is_named, other_line};
-use life_hauls::{HaulWords, Job, SoupWords, Symmetry, read_words};
+use life_hauls::{HaulJob, HaulWords, SoupWords, Symmetry, read_haul_words};
 use std::alloc::Global;
 
 /// A thousand soups under Conway's Life.
@@ -34,49 +34,55 @@ const NAMES: [(&str, Symmetry); 7] = [
 ];
 
 /// Command lines, and the job that each names; `None` for a usage error.
-const LINES: [(&str, Option<Job<'static>>); 18] = [
+const LINES: [(&str, Option<HaulJob<'static>>); 18] = [
     ("life-haul", None),
     ("life-haul abc 1 1000 2048", None),
     ("life-haul abc one 1000 2048 60", None),
     ("life-haul abc 1 1000 2048 60 --help", None),
-    ("life-haul abc 1 1000 2048 60", Some(Job::Haul(THOUSAND))),
+    (
+        "life-haul abc 1 1000 2048 60",
+        Some(HaulJob::Haul(THOUSAND)),
+    ),
     (
         "life-haul --rule B36/S23 abc 1 1000 2048 60",
-        Some(Job::Haul(HaulWords {
+        Some(HaulJob::Haul(HaulWords {
             rule: "B36/S23",
             ..THOUSAND
         })),
     ),
     (
         "life-haul -- soup 1 1000 2048 60",
-        Some(Job::Haul(HaulWords {
+        Some(HaulJob::Haul(HaulWords {
             root: "soup",
             ..THOUSAND
         })),
     ),
-    ("life-haul soup abc 17", Some(Job::Soup(SOUP))),
+    ("life-haul soup abc 17", Some(HaulJob::Soup(SOUP))),
     (
         "life-haul soup abc 17 --rule B36/S23",
-        Some(Job::Soup(SoupWords {
+        Some(HaulJob::Soup(SoupWords {
             rule: "B36/S23",
             ..SOUP
         })),
     ),
     (
         "life-haul --symmetry 8x32 abc 1 1000 2048 60",
-        Some(Job::Haul(HaulWords {
+        Some(HaulJob::Haul(HaulWords {
             symmetry: Symmetry::EightRows,
             ..THOUSAND
         })),
     ),
     (
         "life-haul soup abc 17 --symmetry D2_+2",
-        Some(Job::Soup(SoupWords {
+        Some(HaulJob::Soup(SoupWords {
             symmetry: Symmetry::D2Plus2,
             ..SOUP
         })),
     ),
-    ("life-haul soup abc 17 --symmetry=C1", Some(Job::Soup(SOUP))),
+    (
+        "life-haul soup abc 17 --symmetry=C1",
+        Some(HaulJob::Soup(SOUP)),
+    ),
     ("life-haul abc 1 1000 2048 60 --symmetry 32x8", None),
     ("life-haul soup abc 17 --symmetry d2_+2", None),
     ("life-haul --symmetry 8x32 soup abc 17", None),
@@ -95,8 +101,8 @@ fn symmetries_are_read_by_their_names(rt: HostRuntime) {
 }
 
 /// Whether the arguments name the job, or are a usage error if there is none.
-fn name(alloc: Global, words: &[&str], job: Option<Job<'_>>) -> bool {
-    is_named(read_words(alloc, words), job)
+fn name(alloc: Global, words: &[&str], job: Option<HaulJob<'_>>) -> bool {
+    is_named(read_haul_words(alloc, words), job)
 }
 
 #[test]

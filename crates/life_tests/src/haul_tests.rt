@@ -1,7 +1,7 @@
 //! Hauls and soups that are written into memory. The expected tables of hauls, and soups of symmetries other than C1, come from a separate
 //! program that uses Python's SHA-256; the soup of C1 comes from `sha256sum` and `basenc`.
 use life_hauls::{
-    HaulWatch, HaulWords, Job, SoupWords, Symmetry, Unwatched, laws_of_hauls, laws_of_soups,
+    HaulJob, HaulWatch, HaulWords, SoupWords, Symmetry, Unwatched, laws_of_hauls, laws_of_soups,
     run_haul, run_soup,
 };
 use life_jobs::Stop;
@@ -185,15 +185,15 @@ const BAD_TEXTS: [(&str, &str, Stop); 3] = [
 ];
 
 /// Does the job, and puts what it prints.
-fn done<O: Outlet>(alloc: Global, job: Job<'_>, output: &mut O) -> Result<(), Stop> {
+fn done<O: Outlet>(alloc: Global, job: HaulJob<'_>, output: &mut O) -> Result<(), Stop> {
     match job {
-        Job::Haul(words) => run_haul(alloc, words, output, &mut Unwatched),
-        Job::Soup(words) => run_soup(alloc, words, output),
+        HaulJob::Haul(words) => run_haul(alloc, words, output, &mut Unwatched),
+        HaulJob::Soup(words) => run_soup(alloc, words, output),
     }
 }
 
 /// Whether the job returns this and writes this.
-fn answers(alloc: Global, job: Job<'_>, answer: Result<(), Stop>, text: &str) -> bool {
+fn answers(alloc: Global, job: HaulJob<'_>, answer: Result<(), Stop>, text: &str) -> bool {
     let mut output = MemoryOutlet::new(alloc);
     done(alloc, job, &mut output) == answer && output.bytes() == text.as_bytes()
 }
@@ -201,7 +201,7 @@ fn answers(alloc: Global, job: Job<'_>, answer: Result<(), Stop>, text: &str) ->
 #[test]
 fn hauls_are_put(rt: HostRuntime) {
     for (symmetry, text) in HAULS {
-        let job = Job::Haul(HaulWords { symmetry, ..THREE });
+        let job = HaulJob::Haul(HaulWords { symmetry, ..THREE });
         assert!(rt; answers(rt.alloc(), job, Ok(()), text), "{job:?}");
     }
 }
@@ -209,7 +209,7 @@ fn hauls_are_put(rt: HostRuntime) {
 #[test]
 fn soups_are_put(rt: HostRuntime) {
     for (symmetry, text) in SOUPS {
-        let job = Job::Soup(SoupWords { symmetry, ..SOUP });
+        let job = HaulJob::Soup(SoupWords { symmetry, ..SOUP });
         assert!(rt; answers(rt.alloc(), job, Ok(()), text), "{job:?}");
     }
 }
@@ -218,10 +218,10 @@ fn soups_are_put(rt: HostRuntime) {
 fn numbers_are_out_of_their_limits(rt: HostRuntime) {
     let out = Err(Stop::OutOfLimit);
     let number = 9_007_199_255_740_992;
-    let soup = Job::Soup(SoupWords { number, ..SOUP });
+    let soup = HaulJob::Soup(SoupWords { number, ..SOUP });
     assert!(rt; answers(rt.alloc(), soup, out, ""), "{soup:?}");
     for (first, count, n, limit) in OUT_OF_LIMIT {
-        let haul = Job::Haul(HaulWords {
+        let haul = HaulJob::Haul(HaulWords {
             first,
             count,
             n,
@@ -235,20 +235,20 @@ fn numbers_are_out_of_their_limits(rt: HostRuntime) {
 #[test]
 fn roots_and_rules_are_refused(rt: HostRuntime) {
     for (root, rule, stop) in BAD_TEXTS {
-        let haul = Job::Haul(HaulWords {
+        let haul = HaulJob::Haul(HaulWords {
             root,
             rule,
             ..THREE
         });
         assert!(rt; answers(rt.alloc(), haul, Err(stop), ""), "{haul:?}");
-        let soup = Job::Soup(SoupWords { root, rule, ..SOUP });
+        let soup = HaulJob::Soup(SoupWords { root, rule, ..SOUP });
         assert!(rt; answers(rt.alloc(), soup, Err(stop), ""), "{soup:?}");
     }
 }
 
 #[test]
 fn a_failed_put_is_told(rt: HostRuntime) {
-    for job in [Job::Haul(THREE), Job::Soup(SOUP)] {
+    for job in [HaulJob::Haul(THREE), HaulJob::Soup(SOUP)] {
         let mut output = PieceOutlet::new(rt.alloc(), 10, Some(1));
         assert_eq!(rt;
             done(rt.alloc(), job, &mut output),

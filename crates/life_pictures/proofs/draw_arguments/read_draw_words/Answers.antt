@@ -3,7 +3,7 @@ use Rattle.life_words.specs.Words.{by_subcommand}
 use Rattle.life_words.proofs.WordsLemmas.{answer_to_fault, asked_of}
 use Rattle.life_pictures.specs.DrawWords.{draw, picture_named, words_picture}
 use Rattle.life_pictures.proofs.DrawWordsLemmas.{is_draw_simple, is_draw_free}
-use Rattle.life_pictures.proofs.draw_arguments.read_words.Goals as goal
+use Rattle.life_pictures.proofs.draw_arguments.read_draw_words.Goals as goal
 
 pub returns-in_err-matches : goal.returns-in_err-matches
 unfolding words_picture

@@ -3,7 +3,7 @@ use Rattle.std.specs.Prelude.{option_map}
 use Rattle.life_words.proofs.WordsLemmas.{answer_to_fault, asked_of}
 use Rattle.life_hauls.specs.HaulWords.{haul_app, asked_by, job_of, words_job}
 use Rattle.life_hauls.proofs.HaulWordsLemmas.{is_haul_simple, is_haul_free}
-use Rattle.life_hauls.proofs.haul_arguments.read_words.Goals as goal
+use Rattle.life_hauls.proofs.haul_arguments.read_haul_words.Goals as goal
 
 pub returns-in_err-matches : goal.returns-in_err-matches
 unfolding words_job

@@ -9,7 +9,7 @@ import ledger
 from debian import ARCHIVE, COPIES, SETTINGS, SITE, VERSION, Debian, Done
 from debian import change_settings, copies, curl, main_process, packages_of, state, text_of, until
 from ledger import rows_of
-from mistakes_files import way_back
+from admin_errors_files import way_back
 from walks import Broken, Step, require
 
 OWN_LINES, BROKEN_LINES = "/etc/life/site.d/walk.conf", "/etc/life/site.d/broken.conf"

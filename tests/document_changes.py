@@ -186,12 +186,7 @@ CHANGES = [
     (copies, ROUTES, "(?m)^(POST,/deposits/.*),slow$", r"\1,quick"),
     (copies, SITE, r"censuses/\[1-9\]\[0-9\]\*/csv", "censuses/csv"),
     (copies, SITE, r"/kind\|objects/", "|objects/"),
-    (
-        copies,
-        SITE,
-        r"(?m)^( *set \$life_page fixed;\n) *limit_conn life_client_all_at_once .*\n *limit_conn .*\n",
-        r"\1",
-    ),
+    (copies, SITE, r"(?m)^( *set \$life_page fixed;\n)\{\{ slow \}\}\n", r"\1"),
     (copies, PROXY, "path_sub /at/ /kind/", "path_sub /at/"),
     (copies, ADDRESSES, "/d/after/", "/d/before/"),
     (copies, "web/main.js", r"\{1,15\}", "{1,16}"),

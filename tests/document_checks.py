@@ -61,7 +61,7 @@ LENGTHS = {
     "docs/HAULS.md": 180,
     API: 280,
     COMMANDS: 190,
-    DECISIONS: 380,
+    DECISIONS: 390,
     DEFINITIONS: 630,
     FORMATS: 375,
     OPERATING: 340,

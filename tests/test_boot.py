@@ -1,5 +1,5 @@
 """The packages of deploy/package on a fresh Debian, with systemd for real: installed, used through nginx, switched off,
-copied, configured; and the mistakes of an administrator, which are the table of tests/mistakes.py. The machine has
+copied, configured; and the mistakes of an administrator, which are the table of tests/admin_errors.py. The machine has
 namespaces and a network of its own; its sshd, its logrotate and a sendmail are Debian's. Root on Debian is needed, and
 mmdebstrap.
 """
@@ -44,8 +44,8 @@ from debian import (
     until,
 )
 from clients import HERE, certify, check, same
-from mistakes import AFTER_AN_OLDER_COPY, MISTAKES, Mistake, try_mistake
-from mistakes_files import OLDER_COPY
+from admin_errors import AFTER_AN_OLDER_COPY, MISTAKES, Mistake, try_mistake
+from admin_errors_files import OLDER_COPY
 from walks import drawn
 from debian_walks import WEIGHT_OF, fault_of_walk
 

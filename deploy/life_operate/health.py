@@ -7,9 +7,9 @@
 The status is 1, with a line on standard error, as long as one of these holds: the folder COPIES has no copy younger
 than AGE (such as 2h); the archive's file is not the one that the service has open; the service, its gateway or nginx is
 enabled, but has not been active for ten minutes; for that long nothing has listened at PORT, the service's port; the
-disk of the archive is nearly full; the archive has nine tenths of the rows that it may have, or so many that a program
-with SIZE of memory could not open it. If there is no copy at all, the last change of COPIES counts. The folder --state
-records since when a unit has not been active. --root replaces /. The other forms are for root. The second one checks a
+disk of the archive is nearly full; the archive has nine tenths of the rows that it may have, or too many for a program
+with SIZE of memory to open it. If there is no copy at all, the last change of COPIES counts. The folder --state records
+since when a unit has not been active. --root replaces /. The other forms are for root. The second one checks a
 certificate: two weeks before it expires the status is 1. The third one checks the folders to which nginx writes as
 USER, if they exist: whether it can, and whether their disks have room.
 """

@@ -28,7 +28,6 @@ from typing import BinaryIO
 from life_operate import commands, exchange
 from life_operate.archive import LEAST_COMMIT, Contents, Refused, answered, begin_of, fold, has_commit, line_of, sync
 from life_operate.exchange import UNIT, say
-from life_operate.privileges import Helper
 from life_operate.losses import (
     RESTORE,
     CurrentArchive,
@@ -42,6 +41,7 @@ from life_operate.losses import (
     remove_files,
     try_copy,
 )
+from life_operate.privileges import Helper
 from life_operate.settings import USUAL
 from life_operate.signals import Signals
 

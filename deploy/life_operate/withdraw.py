@@ -22,8 +22,8 @@ from collections.abc import Callable
 from life_operate import cache
 from life_operate.archive import NoAnswer, Refused, answered, line_of
 from life_operate.exchange import own_lock, say
-from life_operate.privileges import user_of
 from life_operate.loading import answer_of_nginx, shown
+from life_operate.privileges import user_of
 from life_operate.settings import USUAL, BadSetting, end_if_unusable
 from life_operate.signals import Interrupted, Signals, end_by
 from life_operate.withdrawals import change, reasons_in

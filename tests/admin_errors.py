@@ -10,7 +10,7 @@ from typing import NamedTuple
 import ledger
 from debian import Debian, state, until
 from clients import check
-from mistakes_files import (
+from admin_errors_files import (
     boots_without_its_disk,
     breaks_the_file,
     fills_the_disk,
@@ -18,7 +18,7 @@ from mistakes_files import (
     removes_the_file,
     restores_an_older_copy,
 )
-from mistakes_packages import (
+from admin_errors_packages import (
     downgrades,
     purges_the_packages,
     removes_the_packages,
@@ -26,7 +26,7 @@ from mistakes_packages import (
     upgrades_an_old_archive,
     upgrades_without_a_copy,
 )
-from mistakes_signals import (
+from admin_errors_signals import (
     cuts_the_power,
     interrupts_a_configuration,
     interrupts_an_upgrade,

@@ -1,5 +1,5 @@
 """Mistakes with settings and packages: upgrades, older versions, packages that are removed or purged. Each is a
-function for the table of tests/mistakes.py.
+function for the table of tests/admin_errors.py.
 """
 import json
 import os
@@ -22,7 +22,7 @@ from debian import (
 )
 from clients import check, same
 from ledger import beginning, rows_of
-from mistakes_files import COPY, DISK, OLDER_COPY, way_back
+from admin_errors_files import COPY, DISK, OLDER_COPY, way_back
 
 # ---- settings, packages
 

@@ -1,5 +1,5 @@
 """Kills, power cuts, and signals in an upgrade and in a configuration. Each is a function for the table of
-tests/mistakes.py.
+tests/admin_errors.py.
 """
 import os
 import random

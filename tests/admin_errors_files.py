@@ -1,5 +1,5 @@
 """Mistakes with files: the disk of an archive, its file, the copies that are put back. Each is a function for the table
-of tests/mistakes.py.
+of tests/admin_errors.py.
 """
 import os
 import re

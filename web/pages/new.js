@@ -6,7 +6,7 @@ import { lastDeposit, sendDeposit } from '../requests/archive.js';
 import { sameDeposit } from './compare.js';
 import { field, isMember, make, plural, refusal, withCommas } from '../shared/dom.js';
 import { Editor } from '../drawing/editor.js';
-import { cutButton, oldChoice, readGiven, refusedBy } from '../patterns/given.js';
+import { cutButton, oldChoice, readGiven, refusedBy } from '../patterns/input.js';
 import { draft, keepDraft } from '../shared/kept.js';
 import { LONGEST_FILE, LONGEST_MEMBER, LONGEST_SIDE, LONGEST_TEXT, LONGEST_TOKEN } from '../shared/limits.js';
 import { Table, forgetTable, keptTable } from './many.js';
@@ -31,7 +31,7 @@ class Content {
   bytes = new Uint8Array();
   fault = null;
   fileName = '';
-  /** What the page made of the file; null for an empty one. @type {import('../patterns/given.js').Given | null} */
+  /** What the page made of the file; null for an empty one. @type {import('../patterns/input.js').Given | null} */
   read = null;
   /** The last file without a fault, whose lines stay if its cells are edited. */
   #good = null;

@@ -13,7 +13,7 @@ import { learnMember, memberPart, rememberMember } from '../shared/member.js';
 import { baseName, folderOf, pathOf, withTexts } from '../patterns/names.js';
 import { Refused, sentenceOf } from '../requests/refusals.js';
 import { ruleText } from '../patterns/rule.js';
-import { sumOf } from '../patterns/sum.js';
+import { sumOf } from '../patterns/sha256.js';
 
 const SIDE = 48;
 /** How many milliseconds to wait after "too many requests", if the reply does not say. */

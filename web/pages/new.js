@@ -16,7 +16,7 @@ import { keepNote, passedFiles } from '../shared/passed.js';
 import { Refused } from '../requests/refusals.js';
 import { Fault } from '../patterns/rle.js';
 import { ruleText } from '../patterns/rule.js';
-import { sumOf } from '../patterns/sum.js';
+import { sumOf } from '../patterns/sha256.js';
 import { withPattern } from '../patterns/writer.js';
 
 /** After how many milliseconds without a change it is asked whether a deposit has the same cells. */

@@ -5,7 +5,7 @@ import { go } from '../shared/address.js';
 import { Labels, countNote, mostOf, objectRow, unresolvedRow } from './census.js';
 import { objectNames } from '../patterns/code.js';
 import { field, make, plural, withCommas } from '../shared/dom.js';
-import { draft, entryState, keepDraft, keepEntryState } from '../shared/kept.js';
+import { draft, entryState, keepDraft, keepEntryState } from '../shared/storage.js';
 import { passFiles, passedFiles } from '../shared/passed.js';
 import { Heads, keepOrder, keptOrder, sorted } from '../shared/sorts.js';
 import { sumOf } from '../patterns/sha256.js';

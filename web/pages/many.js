@@ -7,7 +7,7 @@ import { collectionAddress, MOST_ITEMS } from '../shared/collection.js';
 import { field, isMember, make, plural, refusal, withCommas } from '../shared/dom.js';
 import { thumbnail } from '../drawing/draw.js';
 import { cutButton, oldChoice, readGiven, refusedBy } from '../patterns/input.js';
-import { draft, keepDraft } from '../shared/kept.js';
+import { draft, keepDraft } from '../shared/storage.js';
 import { LONGEST_FILE, LONGEST_TEXT } from '../shared/limits.js';
 import { learnMember, memberPart, rememberMember } from '../shared/member.js';
 import { baseName, folderOf, pathOf, withTexts } from '../patterns/names.js';

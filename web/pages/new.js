@@ -7,7 +7,7 @@ import { sameDeposit } from './compare.js';
 import { field, isMember, make, plural, refusal, withCommas } from '../shared/dom.js';
 import { Editor } from '../drawing/editor.js';
 import { cutButton, oldChoice, readGiven, refusedBy } from '../patterns/input.js';
-import { draft, keepDraft } from '../shared/kept.js';
+import { draft, keepDraft } from '../shared/storage.js';
 import { LONGEST_FILE, LONGEST_MEMBER, LONGEST_SIDE, LONGEST_TEXT, LONGEST_TOKEN } from '../shared/limits.js';
 import { Table, forgetTable, keptTable } from './many.js';
 import { memberPart, rememberMember } from '../shared/member.js';

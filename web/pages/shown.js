@@ -4,7 +4,7 @@ import { depositAddress, go } from '../shared/address.js';
 import { collectionAddress, readCollection } from '../shared/collection.js';
 import { copyButton, make, refusal, withCommas } from '../shared/dom.js';
 import { load } from '../shared/groups.js';
-import { COLLECTION, COPIED, draft, keepDraft } from '../shared/kept.js';
+import { COLLECTION, COPIED, draft, keepDraft } from '../shared/storage.js';
 import { LONGEST_SIDE } from '../shared/limits.js';
 import { passFiles } from '../shared/passed.js';
 import { ruleText } from '../patterns/rule.js';

@@ -5,7 +5,7 @@ import { go, memberAddress } from './shared/address.js';
 import { againButton, isMember, make, refusal } from './shared/dom.js';
 import { load } from './shared/groups.js';
 import { entryState, keepEntryState, keepSetting, setting } from './shared/storage.js';
-import { passFiles } from './shared/passed.js';
+import { passFiles } from './shared/handover.js';
 import { homePage } from './pages/home.js';
 import { deposits, depositsOf } from './pages/list.js';
 import { Refused } from './requests/refusals.js';

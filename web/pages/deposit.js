@@ -22,7 +22,7 @@ import {
 import { GENERATION_LIMIT, PERIOD_LIMIT } from '../shared/limits.js';
 import { countAll } from '../player/maker.js';
 import { learnMember, memberPart, rememberMember } from '../shared/member.js';
-import { noteOf } from '../shared/passed.js';
+import { noteOf } from '../shared/handover.js';
 import { speedText } from '../patterns/pattern.js';
 import { Player } from '../player/player.js';
 import { Refused } from '../requests/refusals.js';

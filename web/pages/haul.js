@@ -6,7 +6,7 @@ import { Labels, countNote, mostOf, objectRow, unresolvedRow } from './census.js
 import { objectNames } from '../patterns/code.js';
 import { field, make, plural, withCommas } from '../shared/dom.js';
 import { draft, entryState, keepDraft, keepEntryState } from '../shared/storage.js';
-import { passFiles, passedFiles } from '../shared/passed.js';
+import { passFiles, passedFiles } from '../shared/handover.js';
 import { Heads, keepOrder, keptOrder, sorted } from '../shared/sorts.js';
 import { sumOf } from '../patterns/sha256.js';
 

@@ -12,7 +12,7 @@ import { LONGEST_FILE, LONGEST_MEMBER, LONGEST_SIDE, LONGEST_TEXT, LONGEST_TOKEN
 import { Table, forgetTable, keptTable } from './many.js';
 import { memberPart, rememberMember } from '../shared/member.js';
 import { NO_FILES, baseName, patternsOf, withTexts } from '../patterns/names.js';
-import { keepNote, passedFiles } from '../shared/passed.js';
+import { keepNote, passedFiles } from '../shared/handover.js';
 import { Refused } from '../requests/refusals.js';
 import { Fault } from '../patterns/rle.js';
 import { ruleText } from '../patterns/rule.js';

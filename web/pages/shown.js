@@ -6,7 +6,7 @@ import { copyButton, make, refusal, withCommas } from '../shared/dom.js';
 import { load } from '../shared/groups.js';
 import { COLLECTION, COPIED, draft, keepDraft } from '../shared/storage.js';
 import { LONGEST_SIDE } from '../shared/limits.js';
-import { passFiles } from '../shared/passed.js';
+import { passFiles } from '../shared/handover.js';
 import { ruleText } from '../patterns/rule.js';
 import { save } from '../shared/save.js';
 import { fileOf, originOf, withOrigin } from '../patterns/writer.js';

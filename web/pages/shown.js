@@ -132,7 +132,7 @@ export class Shown {
     const open = async () => {
       if (pictures.childElementCount > 0) return;
       try {
-        const { saveParts } = await load('others');
+        const { saveParts } = await load('lazyPages');
         pictures.replaceChildren(...saveParts(this, this.page));
       } catch (error) {
         pictures.replaceChildren(refusal(error));

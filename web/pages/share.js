@@ -15,7 +15,7 @@ import { fileOf, originOf, withOrigin } from '../patterns/writer.js';
  * What a member can do with the generation that is shown: cite its address, copy its text, take a census. It is updated
  * with each generation.
  */
-export class Shown {
+export class Share {
   /**
    * @param {number} number
    * @param {{ bytes: Uint8Array, record: object }} own the deposit itself

@@ -60,10 +60,13 @@ class Firefox:
 
     def __init__(self, folder: str, patience: float) -> None:
         self.patience = patience
-        self.profile = os.path.join(folder, "firefox")
+        self.profile, self.downloads = os.path.join(folder, "firefox"), os.path.join(folder, "firefox-downloads")
         os.mkdir(self.profile)
+        os.mkdir(self.downloads)
         with open(os.path.join(self.profile, "user.js"), "w", encoding="ascii") as settings:
-            settings.write('user_pref("marionette.port", 0);\nuser_pref("app.update.enabled", false);\n')
+            settings.writelines(
+                f"user_pref({json.dumps(name)}, {json.dumps(value)});\n" for name, value in self.settings
+            )
         self.process = subprocess.Popen(
             [
                 "firefox-esr",
@@ -84,6 +87,16 @@ class Firefox:
         self.send("WebDriver:NewSession", {})
         self.send("WebDriver:SetTimeouts", {"script": 60_000, "pageLoad": 60_000})
         self.send("WebDriver:SetWindowRect", {"width": 1100, "height": 900})
+
+    @property
+    def settings(self) -> list[tuple[str, object]]:
+        return [
+            ("marionette.port", 0),
+            ("app.update.enabled", False),
+            ("browser.download.folderList", 2),
+            ("browser.download.dir", self.downloads),
+            ("browser.download.always_ask_before_handling_new_types", False),
+        ]
 
     def port(self) -> int:
         """The port that Firefox chose, which it writes into its profile."""
@@ -167,6 +180,24 @@ class Firefox:
         field = self.one(selector)
         field.clear()
         field.send_keys(text)
+
+    def press_at(self, x: float, y: float) -> None:
+        """Presses the main button of the mouse at a point of the window."""
+        steps: list[dict[str, Any]] = [
+            {"type": "pointerMove", "x": int(x), "y": int(y), "origin": "viewport", "duration": 0},
+            {"type": "pointerDown", "button": 0},
+            {"type": "pointerUp", "button": 0},
+        ]
+        mouse = {"type": "pointer", "id": "mouse", "parameters": {"pointerType": "mouse"}, "actions": steps}
+        self.send("WebDriver:PerformActions", {"actions": [mouse]})
+
+    def loaded(self, name: str) -> bytes:
+        """A file that was downloaded; empty if it did not come."""
+        path = os.path.join(self.downloads, name)
+        if not self.until(lambda: os.path.exists(path) and os.path.getsize(path) > 0):
+            return b""
+        with open(path, "rb") as file:
+            return file.read()
 
     def picture(self, name: str) -> None:
         """Pictures are taken of the other browser alone."""

@@ -11,7 +11,7 @@ from gateways import DEPLOY, Gateway, Reply, reply_on
 
 WEB = os.path.join(DEPLOY, "..", "web")
 # The name of a file of the pages that never changes.
-DIGESTED = re.compile(r"[a-z]+-[A-Z2-7]{8}\.[a-z]+")
+DIGESTED = re.compile(r"[A-Za-z]+-[A-Z2-7]{8}\.[a-z]+")
 
 
 def content(path: str) -> bytes:

@@ -31,6 +31,7 @@ import web_collection
 import web_colors
 import web_compare
 import web_deposits
+import web_design
 import web_drawings
 import web_editor
 import web_firefox
@@ -583,6 +584,7 @@ PARTS: list[Callable[..., None]] = [
     *web_editor.PARTS,
     *web_waiting.PARTS,
     *web_layout.PARTS,
+    *web_design.PARTS,
     *web_home.PARTS,
     *web_search.PARTS,
     *web_compare.PARTS,

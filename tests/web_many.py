@@ -238,6 +238,9 @@ def folders(gateway: Gateway, browser: Browser, base: str, folder: str) -> None:
         browser.one("#many-folder").is_displayed()
         and not browser.run("return document.getElementById('many-folder').checked"),
     )
+    tops = "return ['many-name', 'many-folder'].map((id) => document.getElementById(id).getBoundingClientRect().top)"
+    name, folder_comment = browser.run(tops)
+    check("each choice has its own line", folder_comment > name + 10)
     browser.one("#many-folder").click()
     browser.type("#many-author", "Cid")
     browser.one("#send-many").click()

@@ -156,7 +156,7 @@ def upgraded(gateway: Gateway, browser: Browser, _base: str, folder: str) -> Non
     does not help."""
     pages, before = os.path.join(gateway.folder, "pages"), os.path.join(folder, "release")
     shutil.copytree(pages, before)
-    others = os.path.basename(bundled(gateway, "others.js"))
+    others = os.path.basename(bundled(gateway, "lazyPages.js"))
     try:
         relay = Relay(gateway.port)
         browser.open(f"http://127.0.0.1:{relay.port}/d")
@@ -171,7 +171,7 @@ def upgraded(gateway: Gateway, browser: Browser, _base: str, folder: str) -> Non
         # Another address of the site, so that the browser keeps nothing of it.
         relay = Relay(gateway.port)
         browser.open(f"http://127.0.0.1:{relay.port}/d")
-        os.remove(os.path.join(pages, "others-AAAAAAAA.js"))
+        os.remove(os.path.join(pages, "lazyPages-AAAAAAAA.js"))
         browser.go("/new")
         check("a file that stays away", browser.until(lambda: "No reply came" in browser.text(".refusal")))
         check("there is a button", browser.all(".again"))

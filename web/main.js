@@ -4,8 +4,8 @@
 import { go, memberAddress } from './shared/address.js';
 import { againButton, isMember, make, refusal } from './shared/dom.js';
 import { load } from './shared/groups.js';
-import { entryState, keepEntryState, keepSetting, setting } from './shared/kept.js';
-import { passFiles } from './shared/passed.js';
+import { entryState, keepEntryState, keepSetting, setting } from './shared/storage.js';
+import { passFiles } from './shared/handover.js';
 import { homePage } from './pages/home.js';
 import { deposits, depositsOf } from './pages/list.js';
 import { Refused } from './requests/refusals.js';
@@ -47,17 +47,17 @@ const PAGES = [
   [ADDRESSES.after, 'deposits', deposits],
   [ADDRESSES.member, 'deposits', (page, member, before) => depositsOf(page, member.toLowerCase(), before)],
   [ADDRESSES.deposit, 'deposits', later('deposit', 'depositPage')],
-  [ADDRESSES.new, 'new', later('others', 'depositForm')],
-  [ADDRESSES.find, 'find', (page) => later('others', 'findPage')(page, location.search.slice(1))],
-  [ADDRESSES.censuses, 'find', later('others', 'censusesPage')],
-  [ADDRESSES.census, 'find', later('others', 'censusPage')],
-  [ADDRESSES.haul, 'find', later('others', 'haulPage')],
-  [ADDRESSES.objects, 'objects', later('others', 'catalogPage')],
-  [ADDRESSES.code, 'objects', later('others', 'codePage')],
-  [ADDRESSES.compare, 'deposits', later('others', 'comparePage')],
-  [ADDRESSES.collection, 'deposits', later('others', 'collectionPage')],
-  [ADDRESSES.list, 'deposits', later('others', 'collectionPage')],
-  [ADDRESSES.about, 'about', later('others', 'aboutPage')],
+  [ADDRESSES.new, 'new', later('lazyPages', 'depositForm')],
+  [ADDRESSES.find, 'find', (page) => later('lazyPages', 'findPage')(page, location.search.slice(1))],
+  [ADDRESSES.censuses, 'find', later('lazyPages', 'censusesPage')],
+  [ADDRESSES.census, 'find', later('lazyPages', 'censusPage')],
+  [ADDRESSES.haul, 'find', later('lazyPages', 'haulPage')],
+  [ADDRESSES.objects, 'objects', later('lazyPages', 'catalogPage')],
+  [ADDRESSES.code, 'objects', later('lazyPages', 'codePage')],
+  [ADDRESSES.compare, 'deposits', later('lazyPages', 'comparePage')],
+  [ADDRESSES.collection, 'deposits', later('lazyPages', 'collectionPage')],
+  [ADDRESSES.list, 'deposits', later('lazyPages', 'collectionPage')],
+  [ADDRESSES.about, 'about', later('lazyPages', 'aboutPage')],
 ];
 
 const main = document.getElementById('main');
@@ -139,7 +139,7 @@ async function pathNow(page) {
   const path = bare(location.pathname);
   if (path !== location.pathname) history.replaceState(history.state, '', path + location.search + location.hash);
   if (path !== '/' || location.hash === '') return path;
-  const { newAddress } = await load('others');
+  const { newAddress } = await load('lazyPages');
   page.signal.throwIfAborted();
   const address = newAddress(location.hash.slice(1));
   if (address) history.replaceState(history.state, '', address);
@@ -260,7 +260,7 @@ async function take(files) {
 async function dropped({ items, files: own }) {
   const [entries, files] = [[...items].map((item) => item.webkitGetAsEntry?.()), [...own]];
   if (!entries.some((entry) => entry?.isDirectory)) return files;
-  const { NO_FILES, filesOf } = await load('others');
+  const { NO_FILES, filesOf } = await load('lazyPages');
   const found = (await Promise.all(entries.filter(Boolean).map((entry) => filesOf(entry)))).flat();
   if (found.length === 0) current.sayNothing(NO_FILES);
   return found;
@@ -297,7 +297,7 @@ document.addEventListener('paste', (event) => {
 
 /** Takes a text if it can be a pattern. */
 async function pasted(text) {
-  const { mayBePattern } = await load('others');
+  const { mayBePattern } = await load('lazyPages');
   if (mayBePattern(text)) await take([new Blob([text])]);
   else current.sayNothing('There is no pattern on the clipboard.');
 }
@@ -323,7 +323,7 @@ for (const kept of [keptTheme, keptLetters]) {
 document.getElementById('search').addEventListener('submit', async (event) => {
   event.preventDefault();
   try {
-    const { addressOf } = await load('others');
+    const { addressOf } = await load('lazyPages');
     go(addressOf(box.value));
   } catch (error) {
     fail(current, error);

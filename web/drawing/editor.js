@@ -2,9 +2,9 @@
 
 import { make, icon, plural } from '../shared/dom.js';
 import * as edits from '../patterns/edits.js';
-import { COPIED, draft, keepDraft } from '../shared/kept.js';
+import { COPIED, draft, keepDraft } from '../shared/storage.js';
 import { isSame } from '../patterns/pattern.js';
-import { readGiven } from '../patterns/given.js';
+import { readGiven } from '../patterns/input.js';
 import { View } from './view.js';
 import { fileOf } from '../patterns/writer.js';
 

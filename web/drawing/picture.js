@@ -129,7 +129,7 @@ const sizeQuestion = (size, act) => [
 
 /**
  * The buttons that save pictures of the generation that is seen, or of some from there on.
- * @param {import('../pages/shown.js').Shown} shown
+ * @param {import('../pages/share.js').Share} shown
  */
 export function saveParts(shown, page) {
   const { number, first } = shown;

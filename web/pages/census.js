@@ -7,7 +7,7 @@ import { copyButton, make, plural, withCommas } from '../shared/dom.js';
 import { thumbnail } from '../drawing/draw.js';
 import { groupsOf } from '../patterns/parts.js';
 import { ruleText } from '../patterns/rule.js';
-import { entryState, keepEntryState } from '../shared/kept.js';
+import { entryState, keepEntryState } from '../shared/storage.js';
 import { Heads, keepOrder, keptOrder, sorted } from '../shared/sorts.js';
 
 const SIDE = 48;

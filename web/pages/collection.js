@@ -13,7 +13,7 @@ import {
   readCollection,
 } from '../shared/collection.js';
 import { copyButton, field, make, plural, refusal, withCommas } from '../shared/dom.js';
-import { COLLECTION, keepDraft } from '../shared/kept.js';
+import { COLLECTION, keepDraft } from '../shared/storage.js';
 import { Refused } from '../requests/refusals.js';
 import { save } from '../shared/save.js';
 

@@ -2,7 +2,7 @@
 
 import { depositAddress, go } from '../shared/address.js';
 import { icon, make, withCommas } from '../shared/dom.js';
-import { keepSetting, setting } from '../shared/kept.js';
+import { keepSetting, setting } from '../shared/storage.js';
 import { GENERATION_LIMIT } from '../shared/limits.js';
 
 /** Generations per second. From 120 on, each of the 60 frames per second advances several generations, at most 32. */

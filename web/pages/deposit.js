@@ -22,13 +22,13 @@ import {
 import { GENERATION_LIMIT, PERIOD_LIMIT } from '../shared/limits.js';
 import { countAll } from '../player/maker.js';
 import { learnMember, memberPart, rememberMember } from '../shared/member.js';
-import { noteOf } from '../shared/passed.js';
+import { noteOf } from '../shared/handover.js';
 import { speedText } from '../patterns/pattern.js';
 import { Player } from '../player/player.js';
 import { Refused } from '../requests/refusals.js';
 import { ruleText } from '../patterns/rule.js';
 import { censusesSection } from './censuses.js';
-import { Shown } from './shown.js';
+import { Share } from './share.js';
 import { View } from '../drawing/view.js';
 
 /** For how many milliseconds the hint about scrolling and zooming is shown. */
@@ -208,7 +208,7 @@ class Stage {
 
   constructor(number, own, page) {
     this.page = page;
-    this.text = new Shown(number, own, page);
+    this.text = new Share(number, own, page);
     this.view = new View(this.canvas, page.signal, () => this.#sayScrolled());
     this.plot = new Plot((at) => this.player.go(at));
     this.player = new Player(number, page.signal, this);

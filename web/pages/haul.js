@@ -5,10 +5,10 @@ import { go } from '../shared/address.js';
 import { Labels, countNote, mostOf, objectRow, unresolvedRow } from './census.js';
 import { objectNames } from '../patterns/code.js';
 import { field, make, plural, withCommas } from '../shared/dom.js';
-import { draft, entryState, keepDraft, keepEntryState } from '../shared/kept.js';
-import { passFiles, passedFiles } from '../shared/passed.js';
+import { draft, entryState, keepDraft, keepEntryState } from '../shared/storage.js';
+import { passFiles, passedFiles } from '../shared/handover.js';
 import { Heads, keepOrder, keptOrder, sorted } from '../shared/sorts.js';
-import { sumOf } from '../patterns/sum.js';
+import { sumOf } from '../patterns/sha256.js';
 
 /** How many objects are shown at first, and how many more by each press. Each has a drawing. */
 const SHOWN = 100;

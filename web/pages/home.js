@@ -30,7 +30,7 @@ const idle = () => new Promise((resolve) => {
 async function addFrequent(page, place) {
   try {
     await idle();
-    const { frequentParts } = await load('others');
+    const { frequentParts } = await load('lazyPages');
     const parts = await frequentParts(page.signal);
     if (!page.signal.aborted) place.replaceChildren(...parts);
   } catch {
@@ -61,7 +61,7 @@ function chosenPart(page, { title, items }) {
 async function play(page, places, items) {
   try {
     await idle();
-    const { Playing } = await load('others');
+    const { Playing } = await load('lazyPages');
     const playing = new Playing(page, places);
     if (await playing.show(items)) playing.run();
     else places.play.hidden = true;

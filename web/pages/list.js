@@ -5,7 +5,7 @@ import { deposit, depositsAfter, generation, lastDeposit } from '../requests/arc
 import { make, plural, withCommas } from '../shared/dom.js';
 import { thumbnail } from '../drawing/draw.js';
 import { allDeposits, indexHead, indexNote } from '../requests/index.js';
-import { entryState, keepEntryState } from '../shared/kept.js';
+import { entryState, keepEntryState } from '../shared/storage.js';
 import { LONGEST_LIST } from '../shared/limits.js';
 
 const SHOWN = 24;

@@ -6,14 +6,14 @@ import { depositRows, sendDeposit } from '../requests/archive.js';
 import { collectionAddress, MOST_ITEMS } from '../shared/collection.js';
 import { field, isMember, make, plural, refusal, withCommas } from '../shared/dom.js';
 import { thumbnail } from '../drawing/draw.js';
-import { cutButton, oldChoice, readGiven, refusedBy } from '../patterns/given.js';
-import { draft, keepDraft } from '../shared/kept.js';
+import { cutButton, oldChoice, readGiven, refusedBy } from '../patterns/input.js';
+import { draft, keepDraft } from '../shared/storage.js';
 import { LONGEST_FILE, LONGEST_TEXT } from '../shared/limits.js';
 import { learnMember, memberPart, rememberMember } from '../shared/member.js';
 import { baseName, folderOf, pathOf, withTexts } from '../patterns/names.js';
 import { Refused, sentenceOf } from '../requests/refusals.js';
 import { ruleText } from '../patterns/rule.js';
-import { sumOf } from '../patterns/sum.js';
+import { sumOf } from '../patterns/sha256.js';
 
 const SIDE = 48;
 /** How many milliseconds to wait after "too many requests", if the reply does not say. */
@@ -36,7 +36,7 @@ class Row {
   kept = null;
   refused = null;
   where = '';
-  /** What the page made of the file; null before it is read. @type {import('../patterns/given.js').Given | null} */
+  /** What the page made of the file; null before it is read. @type {import('../patterns/input.js').Given | null} */
   read = null;
   choices = { asOld: true, isCut: false };
 
@@ -62,7 +62,7 @@ class Row {
     this.say();
   }
 
-  /** Reads the file again, as the member chose. @param {Partial<import('../patterns/given.js').Choices>} more */
+  /** Reads the file again, as the member chose. @param {Partial<import('../patterns/input.js').Choices>} more */
   choose(more) {
     if (!this.read || this.kept !== null) return;
     Object.assign(this.choices, more);

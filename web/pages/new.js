@@ -6,17 +6,17 @@ import { lastDeposit, sendDeposit } from '../requests/archive.js';
 import { sameDeposit } from './compare.js';
 import { field, isMember, make, plural, refusal, withCommas } from '../shared/dom.js';
 import { Editor } from '../drawing/editor.js';
-import { cutButton, oldChoice, readGiven, refusedBy } from '../patterns/given.js';
-import { draft, keepDraft } from '../shared/kept.js';
+import { cutButton, oldChoice, readGiven, refusedBy } from '../patterns/input.js';
+import { draft, keepDraft } from '../shared/storage.js';
 import { LONGEST_FILE, LONGEST_MEMBER, LONGEST_SIDE, LONGEST_TEXT, LONGEST_TOKEN } from '../shared/limits.js';
 import { Table, forgetTable, keptTable } from './many.js';
 import { memberPart, rememberMember } from '../shared/member.js';
 import { NO_FILES, baseName, patternsOf, withTexts } from '../patterns/names.js';
-import { keepNote, passedFiles } from '../shared/passed.js';
+import { keepNote, passedFiles } from '../shared/handover.js';
 import { Refused } from '../requests/refusals.js';
 import { Fault } from '../patterns/rle.js';
 import { ruleText } from '../patterns/rule.js';
-import { sumOf } from '../patterns/sum.js';
+import { sumOf } from '../patterns/sha256.js';
 import { withPattern } from '../patterns/writer.js';
 
 /** After how many milliseconds without a change it is asked whether a deposit has the same cells. */
@@ -31,7 +31,7 @@ class Content {
   bytes = new Uint8Array();
   fault = null;
   fileName = '';
-  /** What the page made of the file; null for an empty one. @type {import('../patterns/given.js').Given | null} */
+  /** What the page made of the file; null for an empty one. @type {import('../patterns/input.js').Given | null} */
   read = null;
   /** The last file without a fault, whose lines stay if its cells are edited. */
   #good = null;

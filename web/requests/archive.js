@@ -3,7 +3,7 @@
 // gateway refused it for its rate.
 
 import { indexHead } from './index.js';
-import { keepSetting, setting } from '../shared/kept.js';
+import { keepSetting, setting } from '../shared/storage.js';
 import { LONGEST_LIST } from '../shared/limits.js';
 import { Refused, refusalOf } from './refusals.js';
 import { readFile } from '../patterns/rle.js';

@@ -1,12 +1,12 @@
 // Loads groups of pages: a visit loads a group with the first page that needs it.
 
 import { Refused } from '../requests/refusals.js';
-import { draft, keepDraft } from './kept.js';
+import { draft, keepDraft } from './storage.js';
 
 /** The groups. Each one more splits what they share into more files, so there are few. */
 const GROUPS = {
   deposit: () => import('../pages/deposit.js'),
-  others: () => import('../pages/others.js'),
+  lazyPages: () => import('../pages/lazyPages.js'),
 };
 
 /** The pauses before a group is requested again, in milliseconds, as for the archive. */

@@ -2,7 +2,7 @@
 // page learns of passwords from a refusal, or from a deposit that is another member's than the one that was typed.
 
 import { field, isMember, make } from './dom.js';
-import { keepSetting, setting } from './kept.js';
+import { keepSetting, setting } from './storage.js';
 import { LONGEST_MEMBER } from './limits.js';
 
 /** The setting of a club with passwords: the name that logs in; empty if it is not known yet. */

@@ -1,7 +1,7 @@
 // Tables that a press on a column's head sorts.
 
 import { make } from './dom.js';
-import { entryState, keepEntryState } from './kept.js';
+import { entryState, keepEntryState } from './storage.js';
 
 /**
  * @typedef {object} Column

@@ -4,9 +4,9 @@ import { depositAddress, go } from '../shared/address.js';
 import { collectionAddress, readCollection } from '../shared/collection.js';
 import { copyButton, make, refusal, withCommas } from '../shared/dom.js';
 import { load } from '../shared/groups.js';
-import { COLLECTION, COPIED, draft, keepDraft } from '../shared/kept.js';
+import { COLLECTION, COPIED, draft, keepDraft } from '../shared/storage.js';
 import { LONGEST_SIDE } from '../shared/limits.js';
-import { passFiles } from '../shared/passed.js';
+import { passFiles } from '../shared/handover.js';
 import { ruleText } from '../patterns/rule.js';
 import { save } from '../shared/save.js';
 import { fileOf, originOf, withOrigin } from '../patterns/writer.js';
@@ -15,7 +15,7 @@ import { fileOf, originOf, withOrigin } from '../patterns/writer.js';
  * What a member can do with the generation that is shown: cite its address, copy its text, take a census. It is updated
  * with each generation.
  */
-export class Shown {
+export class Share {
   /**
    * @param {number} number
    * @param {{ bytes: Uint8Array, record: object }} own the deposit itself
@@ -132,7 +132,7 @@ export class Shown {
     const open = async () => {
       if (pictures.childElementCount > 0) return;
       try {
-        const { saveParts } = await load('others');
+        const { saveParts } = await load('lazyPages');
         pictures.replaceChildren(...saveParts(this, this.page));
       } catch (error) {
         pictures.replaceChildren(refusal(error));

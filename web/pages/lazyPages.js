@@ -14,6 +14,6 @@ export { NO_FILES, filesOf } from '../patterns/names.js';
 export { collectionPage } from './collection.js';
 export { comparePage } from './compare.js';
 export { depositForm } from './new.js';
-export { newAddress } from './old.js';
+export { newAddress } from './oldAddresses.js';
 export { Playing } from './playing.js';
 export { saveParts } from '../drawing/picture.js';

@@ -270,7 +270,7 @@ TYPED_PAGES = [
     ("docs/COMMANDS.md", 20, 1),
     ("docs/DEFINITIONS.md", 33, 0),
     ("docs/API.md", 4, 0),
-    ("docs/GUIDE.md", 35, 0),
+    ("docs/GUIDE.md", 34, 0),
 ]
 
 

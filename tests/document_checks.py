@@ -56,16 +56,16 @@ OTHERS = [
 # The most lines of a page: README is two pages, the others with more are lists, or are looked things up in.
 LENGTHS = {
     "README.md": 170,
-    "bench/README.md": 200,
-    "docs/GUIDE.md": 490,
-    "docs/HAULS.md": 180,
-    API: 280,
-    COMMANDS: 190,
+    "bench/README.md": 165,
+    "docs/GUIDE.md": 360,
+    "docs/HAULS.md": 175,
+    API: 270,
+    COMMANDS: 180,
     DECISIONS: 390,
-    DEFINITIONS: 630,
-    FORMATS: 375,
-    OPERATING: 340,
-    PROOFS: 390,
+    DEFINITIONS: 560,
+    FORMATS: 335,
+    OPERATING: 295,
+    PROOFS: 320,
 }
 MOST_LINES, MOST_COLUMNS, MOST_WORDS_OF_A_CELL = 250, texts.most_columns(), 40
 # Pages whose lines may be longer: they have rows, definitions and replies that can't be broken.

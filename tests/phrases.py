@@ -20,6 +20,8 @@ class Phrase(NamedTuple):
 
 # Comments of a crate are changed only with its code, since it is then proved again.
 CRATES = "crates/"
+# Messages, web pages and tests still have these phrases; documents no longer do.
+NOT_DOCUMENTS = r"(?!.*\.(?:md|8)$)"
 # What is said there, by other words: each phrase is one that people write, and that nobody says.
 PHRASES: List[Phrase] = [
     Phrase(*row)
@@ -64,11 +66,38 @@ PHRASES: List[Phrase] = [
         (r"\bmend(?:s|ing)? (?:it|them|an?|the|this)\b", "'repair', 'fix'"),
         (r"\bgive the same command\b", "'run the same command'"),
         (r"\b(?:is|are) well again\b", "'has recovered'"),
+        (
+            r"\b(?:file|archive|database|token|log|command|part|host|members?|root|row|copy|it|them) alone\b",
+            "'only' before the word",
+            NOT_DOCUMENTS,
+        ),
+        (r"\bbeside\b", "'next to', 'compared with', 'while'", NOT_DOCUMENTS),
+        (r"\bnobody\b", "'no one', or say who does it", NOT_DOCUMENTS),
+        (r"\bwhole (?:archive|file|message|folder|field|table|range|line|text|page)s?\b", "'complete'", NOT_DOCUMENTS),
+        (r"\bjudge[sd]?\b", "'check', 'validate'", NOT_DOCUMENTS),
+        (r"\b(?:is|are|was|were|be) tried\b", "'is tested'", NOT_DOCUMENTS),
+        (r"(?-i:\bAs of\b)", "a row that can be read without the others"),
+        (r"\bat work\b", "'is running'", NOT_DOCUMENTS),
+        (r"\b(?:is|are) back\b", "'repeats', 'has returned'", NOT_DOCUMENTS),
+        (
+            r"\b(?:is|are|be|than|with|from|and|by|to|as) (?:that|those) of\b",
+            "repeat the noun, or a genitive",
+            NOT_DOCUMENTS,
+        ),
+        (r"\bof (?:its|their|your|his|one's) own\b", "'its own', 'separate'", NOT_DOCUMENTS),
+        (
+            r"\bwhat (?:it|they) (?:holds?|has|have|had|says?|said|shows?|keeps?|needs?|wants?|gives?|makes?)\b",
+            "a noun: 'its contents', 'the reply'",
+            NOT_DOCUMENTS,
+        ),
+        (r"\b(?:is|are|was|were) there(?=[.,;:)])", "'exists'", NOT_DOCUMENTS),
+        (r"\bseen to\b", "name who acts: 'we can show'", NOT_DOCUMENTS),
     )
 ]
 
 # Phrases that a file has to have, each with the reason.
 EXCEPTIONS = {
+    ("tests/document_checks.py", "As of"): "how a sentence about a clause must not begin",
     ("tests/test_members.py", "are told"): "a sentence that was withdrawn from docs/API.md, which must not come back",
 }
 

@@ -268,9 +268,9 @@ NEEDS_MORE = re.compile("<tab>|--port$|completions|deploy/|man -l|--help|8081")
 TYPED_PAGES = [
     ("README.md", 9, 0),
     ("docs/COMMANDS.md", 20, 1),
-    ("docs/DEFINITIONS.md", 33, 0),
+    ("docs/DEFINITIONS.md", 32, 0),
     ("docs/API.md", 4, 0),
-    ("docs/GUIDE.md", 35, 0),
+    ("docs/GUIDE.md", 34, 0),
 ]
 
 

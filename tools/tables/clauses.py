@@ -99,7 +99,7 @@ def table(rows: List[Row], libraries: Libraries) -> List[str]:
     for row in rows:
         anchors = "".join(f'<a id="{anchor}"></a>' for anchor in row.anchors)
         lines.append(f"{anchors}{links(row, libraries)} | `{row.clause}` | {row.sentence}")
-    return markdown("Function | Clause | What it says", lines)
+    return markdown("Function | Clause | Statement", lines)
 
 
 def table_of_proofs(rows: List[Row], crates: Tuple[str, ...], libraries: Libraries) -> List[str]:

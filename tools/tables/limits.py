@@ -11,7 +11,7 @@ PATH = "docs/limits.csv"
 # pages. One with a `table` has a row in API: its meaning, and the `cells` that follow. `prose` lists the pages that
 # name the value in a sentence, where no script writes it.
 COLUMNS = ["name", "value", "web", "file", "before", "meaning", "table", "cells", "prose"]
-HEADERS = {"limits": "What | Limit", "waits": "What is waited for | Seconds | Then"}
+HEADERS = {"limits": "Part | Limit", "waits": "Wait for | Seconds | Then"}
 
 
 class Limit(NamedTuple):

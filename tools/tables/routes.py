@@ -163,17 +163,12 @@ def site_location(routes: List[Route], cache: str, cost: str) -> List[str]:
     return [f"    location ~ ^/({'|'.join(paths)})$ {{"]
 
 
-def in_condition(setting: str, line: str) -> List[str]:
-    """A line of a template that it has only with this setting."""
-    return [f"{{% if {setting} %}}", line, "{% endif %}"]
-
-
 def site_realm(routes: List[Route]) -> List[str]:
     """The map that has the routes on which a long search needs a password. They end in the limit."""
     known = reading(routes, "slow")
     paths = [re.sub(r"/\{limit\}$", "", route.path[1:]) for route in known if route.path.endswith("/{limit}")]
     forms = "|".join(expression(path, {**IN_ROUTES, "code": PART}) for path in paths)
-    return in_condition("MEMBERS_FILE", f'map $life_path $life_realm {{ default off; "~^/({forms})/{LONG}$" club; }}')
+    return [f'map $life_path $life_realm {{ default off; "~^/({forms})/{LONG}$" club; }}']
 
 
 def proxy_slow(routes: List[Route]) -> List[str]:
@@ -196,7 +191,7 @@ def proxy_slow(routes: List[Route]) -> List[str]:
 def site_pages(addresses: List[Address], limits: Limits) -> List[str]:
     """The location of the pages. One page is at all their addresses, with a slash at the end too."""
     paths = [expression(one.path[1:], in_addresses(limits)) for one in addresses if one.path != "/"]
-    return in_condition("PAGES_FOLDER", f'    location ~* "^/({"|".join(paths)})?/?$" {{')
+    return [f'    location ~* "^/({"|".join(paths)})?/?$" {{']
 
 
 def site_titles(addresses: List[Address], limits: Limits) -> List[str]:

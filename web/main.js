@@ -11,7 +11,7 @@ import { deposits, depositsOf } from './pages/list.js';
 import { Refused } from './requests/refusals.js';
 
 /** A page of a group. */
-const later = (name, begin) => async (page, ...given) => {
+const lazyPage = (name, begin) => async (page, ...given) => {
   const module = await load(name);
   if (!page.signal.aborted) await module[begin](page, ...given);
 };
@@ -46,18 +46,18 @@ const PAGES = [
   [ADDRESSES.deposits, 'deposits', (page) => deposits(page)],
   [ADDRESSES.after, 'deposits', deposits],
   [ADDRESSES.member, 'deposits', (page, member, before) => depositsOf(page, member.toLowerCase(), before)],
-  [ADDRESSES.deposit, 'deposits', later('deposit', 'depositPage')],
-  [ADDRESSES.new, 'new', later('lazyPages', 'depositForm')],
-  [ADDRESSES.find, 'find', (page) => later('lazyPages', 'findPage')(page, location.search.slice(1))],
-  [ADDRESSES.censuses, 'find', later('lazyPages', 'censusesPage')],
-  [ADDRESSES.census, 'find', later('lazyPages', 'censusPage')],
-  [ADDRESSES.haul, 'find', later('lazyPages', 'haulPage')],
-  [ADDRESSES.objects, 'objects', later('lazyPages', 'catalogPage')],
-  [ADDRESSES.code, 'objects', later('lazyPages', 'codePage')],
-  [ADDRESSES.compare, 'deposits', later('lazyPages', 'comparePage')],
-  [ADDRESSES.collection, 'deposits', later('lazyPages', 'collectionPage')],
-  [ADDRESSES.list, 'deposits', later('lazyPages', 'collectionPage')],
-  [ADDRESSES.about, 'about', later('lazyPages', 'aboutPage')],
+  [ADDRESSES.deposit, 'deposits', lazyPage('deposit', 'depositPage')],
+  [ADDRESSES.new, 'new', lazyPage('lazyPages', 'depositForm')],
+  [ADDRESSES.find, 'find', (page) => lazyPage('lazyPages', 'findPage')(page, location.search.slice(1))],
+  [ADDRESSES.censuses, 'find', lazyPage('lazyPages', 'censusesPage')],
+  [ADDRESSES.census, 'find', lazyPage('lazyPages', 'censusPage')],
+  [ADDRESSES.haul, 'find', lazyPage('lazyPages', 'haulPage')],
+  [ADDRESSES.objects, 'objects', lazyPage('lazyPages', 'catalogPage')],
+  [ADDRESSES.code, 'objects', lazyPage('lazyPages', 'codePage')],
+  [ADDRESSES.compare, 'deposits', lazyPage('lazyPages', 'comparePage')],
+  [ADDRESSES.collection, 'deposits', lazyPage('lazyPages', 'collectionPage')],
+  [ADDRESSES.list, 'deposits', lazyPage('lazyPages', 'collectionPage')],
+  [ADDRESSES.about, 'about', lazyPage('lazyPages', 'aboutPage')],
 ];
 
 const main = document.getElementById('main');

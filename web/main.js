@@ -63,7 +63,7 @@ const PAGES = [
 const main = document.getElementById('main');
 const status = document.getElementById('status');
 const keysDialog = /** @type {HTMLDialogElement} */ (document.getElementById('keys'));
-const mine = /** @type {HTMLAnchorElement} */ (document.getElementById('mine'));
+const myLink = /** @type {HTMLAnchorElement} */ (document.getElementById('mine'));
 const box = /** @type {HTMLInputElement} */ (document.getElementById('box'));
 let current = null;
 
@@ -157,8 +157,8 @@ function markLinks(part) {
 /** A link to the deposits of the member who last used this browser. */
 function markMember() {
   const member = setting('member');
-  mine.hidden = !isMember(member ?? '');
-  if (!mine.hidden) mine.href = memberAddress(member);
+  myLink.hidden = !isMember(member ?? '');
+  if (!myLink.hidden) myLink.href = memberAddress(member);
 }
 
 /** The search box shows the words of the current search, and is empty on other pages. */

@@ -129,14 +129,14 @@ function sayWaiting(page) {
 }
 
 /** A path without slashes at its end. */
-const bare = (path) => path.replace(/(.)\/+$/, '$1');
+const withoutSlash = (path) => path.replace(/(.)\/+$/, '$1');
 
 /** The page for a path; nothing if no page has this path. */
-const pageOf = (path) => PAGES.find(([form]) => form.test(bare(path)));
+const pageOf = (path) => PAGES.find(([form]) => form.test(withoutSlash(path)));
 
 /** The current path. An old address, after `#`, is replaced by its new one, and a slash at the end is dropped. */
 async function pathNow(page) {
-  const path = bare(location.pathname);
+  const path = withoutSlash(location.pathname);
   if (path !== location.pathname) history.replaceState(history.state, '', path + location.search + location.hash);
   if (path !== '/' || location.hash === '') return path;
   const { newAddress } = await load('lazyPages');

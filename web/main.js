@@ -11,7 +11,7 @@ import { deposits, depositsOf } from './pages/list.js';
 import { Refused } from './requests/refusals.js';
 
 /** A page of a group. */
-const later = (name, begin) => async (page, ...given) => {
+const lazyPage = (name, begin) => async (page, ...given) => {
   const module = await load(name);
   if (!page.signal.aborted) await module[begin](page, ...given);
 };
@@ -46,24 +46,24 @@ const PAGES = [
   [ADDRESSES.deposits, 'deposits', (page) => deposits(page)],
   [ADDRESSES.after, 'deposits', deposits],
   [ADDRESSES.member, 'deposits', (page, member, before) => depositsOf(page, member.toLowerCase(), before)],
-  [ADDRESSES.deposit, 'deposits', later('deposit', 'depositPage')],
-  [ADDRESSES.new, 'new', later('lazyPages', 'depositForm')],
-  [ADDRESSES.find, 'find', (page) => later('lazyPages', 'findPage')(page, location.search.slice(1))],
-  [ADDRESSES.censuses, 'find', later('lazyPages', 'censusesPage')],
-  [ADDRESSES.census, 'find', later('lazyPages', 'censusPage')],
-  [ADDRESSES.haul, 'find', later('lazyPages', 'haulPage')],
-  [ADDRESSES.objects, 'objects', later('lazyPages', 'catalogPage')],
-  [ADDRESSES.code, 'objects', later('lazyPages', 'codePage')],
-  [ADDRESSES.compare, 'deposits', later('lazyPages', 'comparePage')],
-  [ADDRESSES.collection, 'deposits', later('lazyPages', 'collectionPage')],
-  [ADDRESSES.list, 'deposits', later('lazyPages', 'collectionPage')],
-  [ADDRESSES.about, 'about', later('lazyPages', 'aboutPage')],
+  [ADDRESSES.deposit, 'deposits', lazyPage('deposit', 'depositPage')],
+  [ADDRESSES.new, 'new', lazyPage('lazyPages', 'depositForm')],
+  [ADDRESSES.find, 'find', (page) => lazyPage('lazyPages', 'findPage')(page, location.search.slice(1))],
+  [ADDRESSES.censuses, 'find', lazyPage('lazyPages', 'censusesPage')],
+  [ADDRESSES.census, 'find', lazyPage('lazyPages', 'censusPage')],
+  [ADDRESSES.haul, 'find', lazyPage('lazyPages', 'haulPage')],
+  [ADDRESSES.objects, 'objects', lazyPage('lazyPages', 'catalogPage')],
+  [ADDRESSES.code, 'objects', lazyPage('lazyPages', 'codePage')],
+  [ADDRESSES.compare, 'deposits', lazyPage('lazyPages', 'comparePage')],
+  [ADDRESSES.collection, 'deposits', lazyPage('lazyPages', 'collectionPage')],
+  [ADDRESSES.list, 'deposits', lazyPage('lazyPages', 'collectionPage')],
+  [ADDRESSES.about, 'about', lazyPage('lazyPages', 'aboutPage')],
 ];
 
 const main = document.getElementById('main');
 const status = document.getElementById('status');
 const keysDialog = /** @type {HTMLDialogElement} */ (document.getElementById('keys'));
-const mine = /** @type {HTMLAnchorElement} */ (document.getElementById('mine'));
+const myLink = /** @type {HTMLAnchorElement} */ (document.getElementById('mine'));
 const box = /** @type {HTMLInputElement} */ (document.getElementById('box'));
 let current = null;
 
@@ -129,14 +129,14 @@ function sayWaiting(page) {
 }
 
 /** A path without slashes at its end. */
-const bare = (path) => path.replace(/(.)\/+$/, '$1');
+const withoutSlash = (path) => path.replace(/(.)\/+$/, '$1');
 
 /** The page for a path; nothing if no page has this path. */
-const pageOf = (path) => PAGES.find(([form]) => form.test(bare(path)));
+const pageOf = (path) => PAGES.find(([form]) => form.test(withoutSlash(path)));
 
 /** The current path. An old address, after `#`, is replaced by its new one, and a slash at the end is dropped. */
 async function pathNow(page) {
-  const path = bare(location.pathname);
+  const path = withoutSlash(location.pathname);
   if (path !== location.pathname) history.replaceState(history.state, '', path + location.search + location.hash);
   if (path !== '/' || location.hash === '') return path;
   const { newAddress } = await load('lazyPages');
@@ -157,8 +157,8 @@ function markLinks(part) {
 /** A link to the deposits of the member who last used this browser. */
 function markMember() {
   const member = setting('member');
-  mine.hidden = !isMember(member ?? '');
-  if (!mine.hidden) mine.href = memberAddress(member);
+  myLink.hidden = !isMember(member ?? '');
+  if (!myLink.hidden) myLink.href = memberAddress(member);
 }
 
 /** The search box shows the words of the current search, and is empty on other pages. */

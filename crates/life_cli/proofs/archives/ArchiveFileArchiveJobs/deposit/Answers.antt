@@ -1,5 +1,5 @@
 use Rattle.life_cli.proofs.ServingLemmas.{deposit_answers}
-use Rattle.life_cli.proofs.archives.InFilesArchiveJobs.deposit.Goals as goal
+use Rattle.life_cli.proofs.archives.ArchiveFileArchiveJobs.deposit.Goals as goal
 
 pub returns : goal.returns
 returns g c =

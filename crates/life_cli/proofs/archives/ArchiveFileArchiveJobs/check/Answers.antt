@@ -1,5 +1,5 @@
 use Rattle.life_cli.proofs.ServingLemmas.{check_answers}
-use Rattle.life_cli.proofs.archives.InFilesArchiveJobs.check.Goals as goal
+use Rattle.life_cli.proofs.archives.ArchiveFileArchiveJobs.check.Goals as goal
 
 pub returns : goal.returns
 returns g c =

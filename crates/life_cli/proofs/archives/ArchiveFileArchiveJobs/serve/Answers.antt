@@ -1,5 +1,5 @@
 use Rattle.life_cli.proofs.ServingLemmas.{serving_answers}
-use Rattle.life_cli.proofs.archives.InFilesArchiveJobs.serve.Goals as goal
+use Rattle.life_cli.proofs.archives.ArchiveFileArchiveJobs.serve.Goals as goal
 
 pub returns : goal.returns
 returns g c =

@@ -1,6 +1,6 @@
 use Rattle.std.proofs.Common.{rules, ◌≡◌, ◌∙◌}
 use Rattle.life_rle.specs.Stream.{incremented}
-use Rattle.life_cli.proofs.net.PortConnections.serve_next.Goals as goal
+use Rattle.life_cli.proofs.net.PortConnectionsConnections.serve_next.Goals as goal
 
 pub returns-in-Err : goal.returns-in-Err
 returns-in-Err g c =

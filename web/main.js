@@ -239,7 +239,7 @@ document.addEventListener('keydown', (event) => {
 /** What a table of a haul begins with, by which it is known on any page. */
 const HAUL = '# root ';
 
-async function take(files) {
+async function takeFiles(files) {
   try {
     const isHaul = await files[0].slice(0, HAUL.length).text() === HAUL;
     if (current.taken && (!isHaul || location.pathname === '/haul')) {
@@ -283,7 +283,7 @@ document.addEventListener('dragleave', (event) => {
 document.addEventListener('drop', (event) => {
   if (takesDrag(event)) {
     dropped(event.dataTransfer).then((files) => {
-      if (files.length > 0) take(files);
+      if (files.length > 0) takeFiles(files);
     }, (error) => fail(current, error));
   }
 });
@@ -291,14 +291,14 @@ document.addEventListener('paste', (event) => {
   if (event.target instanceof Element && event.target.matches('input, textarea')) return;
   const files = [...event.clipboardData.files];
   const text = event.clipboardData.getData('text/plain');
-  if (files.length > 0) take(files);
+  if (files.length > 0) takeFiles(files);
   else pasted(text).catch((error) => fail(current, error));
 });
 
 /** Takes a text if it can be a pattern. */
 async function pasted(text) {
   const { mayBePattern } = await load('lazyPages');
-  if (mayBePattern(text)) await take([new Blob([text])]);
+  if (mayBePattern(text)) await takeFiles([new Blob([text])]);
   else current.sayNothing('There is no pattern on the clipboard.');
 }
 

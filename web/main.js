@@ -2,7 +2,7 @@
 // `/o/B3-S23/xq4_153`.
 
 import { go, memberAddress } from './shared/address.js';
-import { againButton, isMember, make, refusal } from './shared/dom.js';
+import { againButton, element, isMember, refusal } from './shared/dom.js';
 import { load } from './shared/groups.js';
 import { entryState, keepEntryState, keepSetting, setting } from './shared/storage.js';
 import { passFiles } from './shared/handover.js';
@@ -69,7 +69,7 @@ let current = null;
 
 /** What a page gets: its root element, its abort signal, a function for status messages, and its keys. */
 class Page {
-  root = make('div', { class: 'page' });
+  root = element('div', { class: 'page' });
   keys = {};
   #end = new AbortController();
 
@@ -93,7 +93,7 @@ class Page {
   /** Shows that a drop or a paste had nothing for these pages. */
   sayNothing(text) {
     this.root.querySelector('.nothing')?.remove();
-    this.root.prepend(make('p', { class: 'refusal nothing', role: 'alert' }, text));
+    this.root.prepend(element('p', { class: 'refusal nothing', role: 'alert' }, text));
   }
 }
 
@@ -107,11 +107,11 @@ function fail(page, error) {
   if (!page.root.querySelector('h1')) {
     const heading = NO_REPLIES.includes(refused.name) ? 'No reply' : 'Not found';
     page.title(heading);
-    page.root.append(make('h1', { tabindex: -1 }, heading));
+    page.root.append(element('h1', { tabindex: -1 }, heading));
   }
   page.root.append(
     ...[refusal(refused), againButton(refused, show)].filter(Boolean),
-    make('p', {}, make('a', { href: '/' }, 'The newest deposits')),
+    element('p', {}, element('a', { href: '/' }, 'The newest deposits')),
   );
 }
 

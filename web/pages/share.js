@@ -1,7 +1,7 @@
 // The generation of a deposit that is shown: its address, its text, and depositing it.
 
 import { depositAddress, go } from '../shared/address.js';
-import { collectionAddress, readCollection } from '../shared/collection.js';
+import { collectionAddress, LONGEST_ADDRESS, MOST_ITEMS, readCollection } from '../shared/collection.js';
 import { copyButton, element, refusal, withCommas } from '../shared/dom.js';
 import { load } from '../shared/groups.js';
 import { COLLECTION, COPIED, draft, keepDraft } from '../shared/storage.js';
@@ -145,10 +145,16 @@ export class Share {
     );
   }
 
-  /** Opens the collection that was edited last in this window, or a new one, with this generation at its end. */
+  /**
+   * Opens the collection that was edited last in this window, with this generation at its end; or a new one, if that is
+   * full.
+   */
   #collect() {
     const { title, items } = readCollection(draft(COLLECTION)?.slice('/l/'.length) ?? '');
-    const address = collectionAddress({ title, items: [...items, { number: this.number, at: this.at, caption: '' }] });
+    const item = { number: this.number, at: this.at, caption: '' };
+    const more = collectionAddress({ title, items: [...items, item] });
+    const isFull = items.length >= MOST_ITEMS || more.length > LONGEST_ADDRESS;
+    const address = isFull ? collectionAddress({ title: '', items: [item] }) : more;
     keepDraft(COLLECTION, address);
     go(address);
   }

@@ -211,7 +211,7 @@ export async function censusPage(page, given) {
       ['Clusters', withCommas(found.clusters)],
       ['Objects', plural(rows.length, 'code')],
       ['Unresolved', withCommas(found.unresolved)],
-    ].map(([term, told]) => element('div', {}, element('dt', {}, term), element('dd', {}, told)))),
+    ].map(([term, description]) => element('div', {}, element('dt', {}, term), element('dd', {}, description)))),
     element('p', { class: found.steady ? 'steady yes' : 'steady' }, steadyText(found)),
     countNote(),
     ...labels.choice,

@@ -355,8 +355,8 @@ export async function depositPage(page, given, at = '0') {
     element('div', { class: 'screen' }, heading(number, record, rows), stage.stage),
     ...stage.parts,
     commentsPart(record.comments),
-    element('dl', { class: 'facts' }, list.map(([term, told]) => (
-      element('div', {}, element('dt', {}, term), element('dd', {}, told))
+    element('dl', { class: 'facts' }, list.map(([term, description]) => (
+      element('div', {}, element('dt', {}, term), element('dd', {}, description))
     ))),
     text.part(),
     censusPart(text, page),

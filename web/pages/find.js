@@ -128,7 +128,7 @@ export async function codePage(page, givenRule, givenCode) {
     plain,
     picture,
     page,
-    { title: called, name, isGroup: group !== null, told: facts.told },
+    { title: called, name, isGroup: group !== null, listener: facts.listener },
   ));
   if (group) addLater(page, alone, confirmedParts(group, page.signal));
   const occurs = element('div');

@@ -180,8 +180,8 @@ function shownHaul(haul, labels) {
       `${symmetryWords(haul.symmetry)}, at generation ${withCommas(haul.generation)} under ${haul.rule}, `
         + `with periods up to ${withCommas(haul.limit)}.`,
     ),
-    element('dl', { class: 'facts' }, facts.map(([term, told]) => (
-      element('div', {}, element('dt', {}, term), element('dd', {}, told))
+    element('dl', { class: 'facts' }, facts.map(([term, description]) => (
+      element('div', {}, element('dt', {}, term), element('dd', {}, description))
     ))),
     countNote(),
     ...labels.choice,

@@ -20,7 +20,7 @@ export const KINDS = { s: 'still life', p: 'oscillator', q: 'spaceship' };
 
 /**
  * The kind, the period and the cells of an object, and a spaceship's speed. What only the phases say is added by
- * `told`.
+ * `listener`.
  * @param {string} code
  * @param {number} period
  * @param {object} pattern
@@ -34,14 +34,14 @@ export function objectFacts(code, period, pattern) {
     ['Cells', cells],
     code[1] === 'q' ? ['Speed', speed] : null,
   ].filter(Boolean);
-  const told = ({ least, isSame, moved }) => {
+  const listener = ({ least, isSame, moved }) => {
     cells.replaceChildren(`${withCommas(least)}${isSame ? '' : ' in the smallest phase'}`);
     speed.replaceChildren(speedText(moved.column, moved.row, period));
   };
   const list = element('dl', { class: 'facts' }, facts.map(([term, said]) => (
     element('div', {}, element('dt', {}, term), element('dd', {}, said))
   )));
-  return { list, told };
+  return { list, listener };
 }
 
 /**
@@ -140,7 +140,7 @@ export async function objectParts(
   ruleWord,
   picture,
   page,
-  { title = '', name = null, isGroup = false, told = (_found) => {} } = {},
+  { title = '', name = null, isGroup = false, listener = (_found) => {} } = {},
 ) {
   const rule = readRule(ruleWord);
   const text = () => textOf(pattern, code, ruleText(rule), title);
@@ -151,7 +151,7 @@ export async function objectParts(
   }, 'Download');
   const copy = copyButton('Copy as RLE', text, page.say);
   const found = period > 1 ? await phasesOf(pattern, rule, period, page.signal) : null;
-  if (found) told(found);
+  if (found) listener(found);
   const phases = found?.phases ?? [];
   const play = phases.length > 1 ? playButton(picture, phases, code, page.signal) : null;
   const said = period > MOST_PHASES

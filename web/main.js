@@ -2,7 +2,7 @@
 // `/o/B3-S23/xq4_153`.
 
 import { go, memberAddress } from './shared/address.js';
-import { againButton, isMember, make, refusal } from './shared/dom.js';
+import { againButton, element, isMember, refusal } from './shared/dom.js';
 import { load } from './shared/groups.js';
 import { entryState, keepEntryState, keepSetting, setting } from './shared/storage.js';
 import { passFiles } from './shared/handover.js';
@@ -69,7 +69,7 @@ let current = null;
 
 /** What a page gets: its root element, its abort signal, a function for status messages, and its keys. */
 class Page {
-  root = make('div', { class: 'page' });
+  root = element('div', { class: 'page' });
   keys = {};
   #end = new AbortController();
 
@@ -93,7 +93,7 @@ class Page {
   /** Shows that a drop or a paste had nothing for these pages. */
   sayNothing(text) {
     this.root.querySelector('.nothing')?.remove();
-    this.root.prepend(make('p', { class: 'refusal nothing', role: 'alert' }, text));
+    this.root.prepend(element('p', { class: 'refusal nothing', role: 'alert' }, text));
   }
 }
 
@@ -107,11 +107,11 @@ function fail(page, error) {
   if (!page.root.querySelector('h1')) {
     const heading = NO_REPLIES.includes(refused.name) ? 'No reply' : 'Not found';
     page.title(heading);
-    page.root.append(make('h1', { tabindex: -1 }, heading));
+    page.root.append(element('h1', { tabindex: -1 }, heading));
   }
   page.root.append(
     ...[refusal(refused), againButton(refused, show)].filter(Boolean),
-    make('p', {}, make('a', { href: '/' }, 'The newest deposits')),
+    element('p', {}, element('a', { href: '/' }, 'The newest deposits')),
   );
 }
 
@@ -239,7 +239,7 @@ document.addEventListener('keydown', (event) => {
 /** What a table of a haul begins with, by which it is known on any page. */
 const HAUL = '# root ';
 
-async function take(files) {
+async function takeFiles(files) {
   try {
     const isHaul = await files[0].slice(0, HAUL.length).text() === HAUL;
     if (current.taken && (!isHaul || location.pathname === '/haul')) {
@@ -283,7 +283,7 @@ document.addEventListener('dragleave', (event) => {
 document.addEventListener('drop', (event) => {
   if (takesDrag(event)) {
     dropped(event.dataTransfer).then((files) => {
-      if (files.length > 0) take(files);
+      if (files.length > 0) takeFiles(files);
     }, (error) => fail(current, error));
   }
 });
@@ -291,14 +291,14 @@ document.addEventListener('paste', (event) => {
   if (event.target instanceof Element && event.target.matches('input, textarea')) return;
   const files = [...event.clipboardData.files];
   const text = event.clipboardData.getData('text/plain');
-  if (files.length > 0) take(files);
+  if (files.length > 0) takeFiles(files);
   else pasted(text).catch((error) => fail(current, error));
 });
 
 /** Takes a text if it can be a pattern. */
 async function pasted(text) {
   const { mayBePattern } = await load('lazyPages');
-  if (mayBePattern(text)) await take([new Blob([text])]);
+  if (mayBePattern(text)) await takeFiles([new Blob([text])]);
   else current.sayNothing('There is no pattern on the clipboard.');
 }
 

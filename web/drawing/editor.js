@@ -1,6 +1,6 @@
 // Drawing and editing cells by mouse, touch and keys: a canvas with its tools. What they do to cells is in edits.js.
 
-import { make, icon, plural } from '../shared/dom.js';
+import { element, icon, plural } from '../shared/dom.js';
 import * as edits from '../patterns/edits.js';
 import { COPIED, draft, keepDraft } from '../shared/storage.js';
 import { isSame } from '../patterns/pattern.js';
@@ -44,14 +44,14 @@ const patternIn = (text) => readGiven(encoded(text), { asOld: true, isCut: true 
 
 /** Adds these keys to the dialog. @param {AbortSignal} signal */
 function showKeys(signal) {
-  const lines = KEYS.map(([keys, what]) => make('div', {}, make('dt', {}, keys), make('dd', {}, what)));
-  const part = make('div', {}, make('h2', {}, 'While the drawing has the focus'), make('dl', {}, lines));
+  const lines = KEYS.map(([keys, what]) => element('div', {}, element('dt', {}, keys), element('dd', {}, what)));
+  const part = element('div', {}, element('h2', {}, 'While the drawing has the focus'), element('dl', {}, lines));
   document.querySelector('#keys dl').after(part);
   signal.addEventListener('abort', () => part.remove());
 }
 
 export class Editor {
-  canvas = make('canvas', { class: 'large', role: 'application', tabindex: 0, id: 'drawing' });
+  canvas = element('canvas', { class: 'large', role: 'application', tabindex: 0, id: 'drawing' });
   #history = new edits.History();
   /** What is seen: while a pointer is down, what it would make. */
   #seen = edits.EMPTY;
@@ -75,17 +75,17 @@ export class Editor {
     this.tools = this.#buttonsOf(TOOLS, (name) => this.choose(name));
     this.actions = this.#buttonsOf(ACTIONS, (name) => this.act(name));
     const button = (text, label, click) => (
-      make('button', { type: 'button', title: label, 'aria-label': label, click }, text)
+      element('button', { type: 'button', title: label, 'aria-label': label, click }, text)
     );
-    this.root = make('div', { class: 'editor' },
-      make('div', { class: 'tools', role: 'group', 'aria-label': 'Drawing' },
+    this.root = element('div', { class: 'editor' },
+      element('div', { class: 'tools', role: 'group', 'aria-label': 'Drawing' },
         Object.values(this.tools),
         Object.values(this.actions),
         button('−', 'Zoom out', () => this.view.zoomStep(-1)),
         button('+', 'Zoom in', () => this.view.zoomStep(1)),
         button('Fit', 'Fit: show all cells', () => this.view.fit()),
       ),
-      make('div', { class: 'seen' }, this.canvas),
+      element('div', { class: 'seen' }, this.canvas),
     );
     this.#listen();
     showKeys(page.signal);
@@ -94,7 +94,7 @@ export class Editor {
   }
 
   #buttonsOf(named, press) {
-    return Object.fromEntries(Object.entries(named).map(([name, [label, path]]) => [name, make('button', {
+    return Object.fromEntries(Object.entries(named).map(([name, [label, path]]) => [name, element('button', {
       type: 'button',
       id: `draw-${name}`,
       title: label,

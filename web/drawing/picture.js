@@ -2,7 +2,7 @@
 // (docs/FORMATS.md, Pictures), with a line that says where they come from, and a PNG.
 
 import { generation } from '../requests/archive.js';
-import { make, refusal } from '../shared/dom.js';
+import { element, refusal } from '../shared/dom.js';
 import { GENERATION_LIMIT, MOST_FRAMES } from '../shared/limits.js';
 import { Maker } from '../player/maker.js';
 import { isSame } from '../patterns/pattern.js';
@@ -123,8 +123,8 @@ async function framesOf(number, record, from, count, came, signal) {
 
 /** The question whether to save a large SVG. @param {number} size in bytes @param {() => void} act */
 const sizeQuestion = (size, act) => [
-  make('p', {}, `This SVG has ${Math.round(size / 1e6)} MB. A PNG is usually much smaller.`),
-  make('button', { type: 'button', id: 'save-large', click: act }, 'Save the SVG'),
+  element('p', {}, `This SVG has ${Math.round(size / 1e6)} MB. A PNG is usually much smaller.`),
+  element('button', { type: 'button', id: 'save-large', click: act }, 'Save the SVG'),
 ];
 
 /**
@@ -133,7 +133,7 @@ const sizeQuestion = (size, act) => [
  */
 export function saveParts(shown, page) {
   const { number, first } = shown;
-  const count = make('input', {
+  const count = element('input', {
     id: 'frames',
     type: 'number',
     min: 1,
@@ -142,9 +142,9 @@ export function saveParts(shown, page) {
     'aria-label': 'Generations of the animation',
   });
   count.value = 60;
-  const said = make('div');
+  const said = element('div');
   const nameOf = (ending) => shown.fileName.replace(/rle$/, ending);
-  const button = (id, label, act) => make('button', {
+  const button = (id, label, act) => element('button', {
     type: 'button',
     id,
     click: () => act().catch((error) => {
@@ -168,11 +168,11 @@ export function saveParts(shown, page) {
     const asked = Math.min(Math.max(1, Math.trunc(Number(count.value)) || 1), MOST_FRAMES, GENERATION_LIMIT + 1 - at);
     const stop = new AbortController();
     const signal = /** @type {any} */ (AbortSignal).any([page.signal, stop.signal]);
-    const line = make('span');
+    const line = element('span');
     const came = (many) => line.replaceChildren(`Requesting the generations: ${many} of ${asked}…`);
-    said.replaceChildren(make('p', { class: 'row' },
+    said.replaceChildren(element('p', { class: 'row' },
       line,
-      make('button', { type: 'button', id: 'stop-saving', click: () => stop.abort() }, 'Stop'),
+      element('button', { type: 'button', id: 'stop-saving', click: () => stop.abort() }, 'Stop'),
     ));
     animation.disabled = moving.disabled = true;
     try {
@@ -198,8 +198,8 @@ export function saveParts(shown, page) {
   animation.ariaLabel = 'SVG animation';
   moving.ariaLabel = 'PNG animation';
   return [
-    make('p', { class: 'row' }, 'A picture:', png, svg),
-    make('p', { class: 'row' }, 'An animation of', count, 'generations from here on:', moving, animation),
+    element('p', { class: 'row' }, 'A picture:', png, svg),
+    element('p', { class: 'row' }, 'An animation of', count, 'generations from here on:', moving, animation),
     said,
   ];
 }

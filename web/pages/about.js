@@ -1,10 +1,10 @@
 // The page about the archive: what it is, how to use it, and the terms of the pages.
 
-import { make, withCommas } from '../shared/dom.js';
+import { element, withCommas } from '../shared/dom.js';
 import { GENERATION_LIMIT, LONGEST_SIDE } from '../shared/limits.js';
 
-const link = (href, text) => make('a', { href }, text);
-const code = (text) => make('code', {}, text);
+const link = (href, text) => element('a', { href }, text);
+const code = (text) => element('code', {}, text);
 
 /**
  * The sections, each with an anchor, a heading and paragraphs.
@@ -35,7 +35,7 @@ const sections = () => [
   ['play', 'Play it', [
     [
       'Space plays and pauses; the arrow keys step. ',
-      make('kbd', {}, 'Run to'),
+      element('kbd', {}, 'Run to'),
       ` plays to a generation, forward or back. The last generation is ${withCommas(GENERATION_LIMIT)}; `
         + 'from there you can deposit what you see and play on.',
     ],
@@ -136,27 +136,27 @@ const TERMS = [
 export async function aboutPage(page) {
   page.title('About');
   page.root.append(
-    make('h1', { tabindex: -1 }, 'About this archive'),
-    make('p', { class: 'lead' },
+    element('h1', { tabindex: -1 }, 'About this archive'),
+    element('p', { class: 'lead' },
       'Here a club keeps its patterns for Conway’s Game of Life and similar rules. '
         + 'Anyone can view and play them, and look up which objects they contain. Members add new ones.',
     ),
-    ...sections().map(([id, heading, paragraphs]) => make('section', { id, class: 'prose' },
-      make('h2', {}, heading),
-      paragraphs.map((parts) => make('p', {}, parts)),
+    ...sections().map(([id, heading, paragraphs]) => element('section', { id, class: 'prose' },
+      element('h2', {}, heading),
+      paragraphs.map((parts) => element('p', {}, parts)),
     )),
-    make('section', { id: 'terms', class: 'prose' },
-      make('h2', {}, 'Terms'),
-      make('dl', { class: 'terms' }, TERMS.map(([term, text]) => (
-        make('div', {}, make('dt', {}, term), make('dd', {}, text))
+    element('section', { id: 'terms', class: 'prose' },
+      element('h2', {}, 'Terms'),
+      element('dl', { class: 'terms' }, TERMS.map(([term, text]) => (
+        element('div', {}, element('dt', {}, term), element('dd', {}, text))
       ))),
     ),
-    make('section', { class: 'prose' },
-      make('h2', {}, 'More'),
-      make('ul', { class: 'links' },
-        make('li', {}, link('/c', 'All censuses')),
-        make('li', {}, link('/haul', 'Show a haul')),
-        make('li', {}, link('/index/feed.xml', 'New deposits as a feed')),
+    element('section', { class: 'prose' },
+      element('h2', {}, 'More'),
+      element('ul', { class: 'links' },
+        element('li', {}, link('/c', 'All censuses')),
+        element('li', {}, link('/haul', 'Show a haul')),
+        element('li', {}, link('/index/feed.xml', 'New deposits as a feed')),
       ),
     ),
   );

@@ -2,7 +2,7 @@
 
 import { censusAddress, depositAddress, memberAddress, objectAddress } from '../shared/address.js';
 import { patternOf, wellKnown } from '../patterns/code.js';
-import { isMember, make } from '../shared/dom.js';
+import { element, isMember } from '../shared/dom.js';
 import { thumbnail } from '../drawing/draw.js';
 import { folded } from '../requests/index.js';
 import { readRule, ruleText } from '../patterns/rule.js';
@@ -81,11 +81,11 @@ async function namedObjects(text) {
  */
 export function objectLink({ code, name, rule = 'B3/S23', more }) {
   const pattern = patternOf(code);
-  return make('a', { class: 'object-link', href: objectAddress(rule, code) },
+  return element('a', { class: 'object-link', href: objectAddress(rule, code) },
     pattern ? thumbnail(pattern, SIDE, SIDE) : null,
-    make('span', {},
-      make('strong', {}, name ?? make('code', {}, code)),
-      make('small', {}, more ?? (name ? make('code', {}, code) : '')),
+    element('span', {},
+      element('strong', {}, name ?? element('code', {}, code)),
+      element('small', {}, more ?? (name ? element('code', {}, code) : '')),
     ),
   );
 }
@@ -102,21 +102,21 @@ export async function namedLines(given, members) {
   const rule = ruleNamed(text);
   const lines = [];
   if (objects.length > 0) {
-    lines.push(make('section', { class: 'named', id: 'named-objects' },
-      make('h2', {}, 'Objects'),
-      make('div', { class: 'object-links' }, objects.map((object) => objectLink(object))),
+    lines.push(element('section', { class: 'named', id: 'named-objects' },
+      element('h2', {}, 'Objects'),
+      element('div', { class: 'object-links' }, objects.map((object) => objectLink(object))),
     ));
   }
   if (rule) {
-    lines.push(make('p', { class: 'named' },
+    lines.push(element('p', { class: 'named' },
       'Rule: ',
-      make('a', { href: `/find?${new URLSearchParams({ rule })}` }, `${given.trim()}, ${rule}`),
+      element('a', { href: `/find?${new URLSearchParams({ rule })}` }, `${given.trim()}, ${rule}`),
       ' · ',
-      make('a', { href: `/o/${rule.replace('/', '-')}` }, 'its objects'),
+      element('a', { href: `/o/${rule.replace('/', '-')}` }, 'its objects'),
     ));
   }
   if (members.includes(text)) {
-    lines.push(make('p', { class: 'named' }, 'Member: ', make('a', { href: memberAddress(text) }, text)));
+    lines.push(element('p', { class: 'named' }, 'Member: ', element('a', { href: memberAddress(text) }, text)));
   }
   return lines;
 }

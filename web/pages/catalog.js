@@ -2,7 +2,7 @@
 
 import { depositAddress, go, objectAddress } from '../shared/address.js';
 import { limitOf, objectNames, patternOf } from '../patterns/code.js';
-import { field, make, plural, withCommas } from '../shared/dom.js';
+import { element, field, plural, withCommas } from '../shared/dom.js';
 import { thumbnail } from '../drawing/draw.js';
 import { indexHead, indexNote, objectsOfRule, rulesWithObjects } from '../requests/index.js';
 import { KINDS } from './object.js';
@@ -123,27 +123,27 @@ function fitting(rows, asked) {
 function countCell(row, isSplit) {
   const more = isSplit ? `${withCommas(row.count)} alone` : `+ ${withCommas(row.grouped)} in groups`;
   const number = withCommas(countOf(row, isSplit));
-  return make('td', { class: 'number' }, number, row.grouped ? make('small', {}, more) : null);
+  return element('td', { class: 'number' }, number, row.grouped ? element('small', {}, more) : null);
 }
 
 /** @param {Row} row @param {string} rule @param {boolean} isSplit */
 function lineOf(row, rule, isSplit) {
   const more = `${row.kind}${row.period > 1 ? `, period ${withCommas(row.period)}` : ''}, ${plural(row.cells, 'cell')}`;
-  return make('tr', {},
-    make('td', { class: 'drawn' }, row.pattern ? thumbnail(row.pattern, SIDE, SIDE) : null),
-    make('th', { scope: 'row' },
-      make('a', { href: objectAddress(rule, row.code) }, row.name || make('code', {}, row.code)),
-      row.name ? make('small', {}, make('code', {}, row.code)) : null,
-      make('small', { class: 'narrow' }, more),
+  return element('tr', {},
+    element('td', { class: 'drawn' }, row.pattern ? thumbnail(row.pattern, SIDE, SIDE) : null),
+    element('th', { scope: 'row' },
+      element('a', { href: objectAddress(rule, row.code) }, row.name || element('code', {}, row.code)),
+      row.name ? element('small', {}, element('code', {}, row.code)) : null,
+      element('small', { class: 'narrow' }, more),
     ),
-    make('td', { class: 'more' }, row.kind),
-    make('td', { class: 'more number' }, withCommas(row.period)),
-    make('td', { class: 'more number' }, withCommas(row.cells)),
+    element('td', { class: 'more' }, row.kind),
+    element('td', { class: 'more number' }, withCommas(row.period)),
+    element('td', { class: 'more number' }, withCommas(row.cells)),
     countCell(row, isSplit),
-    make('td', { class: 'more number' }, withCommas(row.deposits)),
-    make('td', { class: 'more number' },
-      row.first ? make('a', { href: depositAddress(row.first) }, `#${withCommas(row.first)}`) : '',
-      row.first ? make('small', {}, row.day) : null,
+    element('td', { class: 'more number' }, withCommas(row.deposits)),
+    element('td', { class: 'more number' },
+      row.first ? element('a', { href: depositAddress(row.first) }, `#${withCommas(row.first)}`) : '',
+      row.first ? element('small', {}, row.day) : null,
     ),
   );
 }
@@ -164,9 +164,9 @@ const csvOf = (rows) => [
 
 /** The choice of a rule. */
 function ruleField(rules, rule) {
-  const choice = make('select', { id: 'objects-rule', change: () => go(`/o/${ruleAddress(choice.value)}`) },
+  const choice = element('select', { id: 'objects-rule', change: () => go(`/o/${ruleAddress(choice.value)}`) },
     rules.map(([text, count]) => (
-      make('option', { value: text, selected: text === rule }, `${text} (${withCommas(count)})`)
+      element('option', { value: text, selected: text === rule }, `${text} (${withCommas(count)})`)
     )),
   );
   return field('Rule', choice);
@@ -189,23 +189,23 @@ class Catalog {
     this.rule = rule;
     this.rows = rows;
     this.asked = askedBy(location.search);
-    this.count = make('p', { class: 'count', role: 'status' });
-    this.body = make('tbody');
-    this.more = make('button', { type: 'button', class: 'more', click: () => this.#showMore() });
+    this.count = element('p', { class: 'count', role: 'status' });
+    this.body = element('tbody');
+    this.more = element('button', { type: 'button', class: 'more', click: () => this.#showMore() });
     this.heads = new Heads(COLUMNS, this.asked, (order) => {
       this.asked = { ...this.asked, ...order };
       this.show();
     });
     this.form = this.#formOf(rules);
-    this.root = make('div', {},
+    this.root = element('div', {},
       this.form,
       this.count,
-      make('table', { class: 'census catalog' },
-        make('caption', { class: 'aside' }, `Objects of the censuses of deposits under ${rule}`),
-        make('thead', {}, make('tr', {}, make('td', {}), this.heads.cells)),
+      element('table', { class: 'census catalog' },
+        element('caption', { class: 'aside' }, `Objects of the censuses of deposits under ${rule}`),
+        element('thead', {}, element('tr', {}, element('td', {}), this.heads.cells)),
         this.body,
       ),
-      make('p', {}, this.more),
+      element('p', {}, this.more),
     );
     this.show();
   }
@@ -216,7 +216,7 @@ class Catalog {
 
   #formOf(rules) {
     const input = (name, placeholder) => {
-      const found = make('input', {
+      const found = element('input', {
         id: `objects-${name}`,
         autocapitalize: 'none',
         autocomplete: 'off',
@@ -227,23 +227,23 @@ class Catalog {
       found.value = this.asked[name];
       return found;
     };
-    const kind = make('select', { id: 'objects-kind', change: () => this.#filter('kind', kind.value) },
+    const kind = element('select', { id: 'objects-kind', change: () => this.#filter('kind', kind.value) },
       [['', 'any'], ...Object.entries(KINDS)].map(([value, text]) => (
-        make('option', { value, selected: value === this.asked.kind }, text)
+        element('option', { value, selected: value === this.asked.kind }, text)
       )),
     );
-    const csv = make('button', {
+    const csv = element('button', {
       type: 'button',
       id: 'objects-csv',
       click: () => save(csvOf(this.#fitting), `objects-${this.rule.replace('/', '-')}.csv`, 'text/csv'),
     }, 'Download CSV');
-    return make('form', { class: 'filters', submit: (event) => event.preventDefault() },
+    return element('form', { class: 'filters', submit: (event) => event.preventDefault() },
       rules.length > 1 ? ruleField(rules, this.rule) : null,
       field('Name or code', input('text', 'loaf, 4 blinkers, xq4')),
       field('Kind', kind),
       field('Period', input('period', '2 or 2-8')),
       field('Cells', input('cells', '4 or 4-10')),
-      make('p', { class: 'row' }, this.#splitOf(), csv),
+      element('p', { class: 'row' }, this.#splitOf(), csv),
     );
   }
 
@@ -252,16 +252,16 @@ class Catalog {
    * Conway's Life.
    */
   #splitOf() {
-    const split = make('input', {
+    const split = element('input', {
       id: 'objects-split',
       type: 'checkbox',
       checked: this.asked.groups === 'split',
       change: () => this.#filter('groups', split.checked ? 'split' : ''),
     });
     return this.rule === LIFE
-      ? make('span', { class: 'check' },
+      ? element('span', { class: 'check' },
         split,
-        make('label', { for: split.id, title: 'Count each object in a group separately' }, 'Split groups'),
+        element('label', { for: split.id, title: 'Count each object in a group separately' }, 'Split groups'),
       )
       : null;
   }
@@ -329,11 +329,11 @@ export async function catalogPage(page, given) {
   const head = await indexHead();
   const wanted = given === undefined ? null : ruleGiven(given);
   page.title(wanted ? `Objects of ${wanted}` : 'Objects');
-  page.root.append(make('h1', { tabindex: -1 }, 'Objects'));
+  page.root.append(element('h1', { tabindex: -1 }, 'Objects'));
   if (!head) {
-    page.root.append(make('p', { class: 'empty' },
+    page.root.append(element('p', { class: 'empty' },
       'This archive has no search index, so there is no list of objects. ',
-      make('a', { href: '/find' }, 'Look one up by its code'),
+      element('a', { href: '/find' }, 'Look one up by its code'),
       '.',
     ));
     return;
@@ -344,16 +344,16 @@ export async function catalogPage(page, given) {
     objectsOfRule(rule, page.signal),
     rule === LIFE ? objectNames() : new Map(),
   ]);
-  page.root.append(make('p', { class: 'by' },
+  page.root.append(element('p', { class: 'by' },
     `All objects that censuses of deposits under ${rule} have found, the most frequent first. `,
-    make('a', { href: '/about#census' }, 'How objects are counted'),
+    element('a', { href: '/about#census' }, 'How objects are counted'),
   ));
   if (objects.length === 0) {
     page.root.append(
-      make('p', { class: 'empty' },
+      element('p', { class: 'empty' },
         `No census of a deposit under ${rule} has found an object yet. `,
         rules.length > 0
-          ? ['There are objects of ', make('a', { href: `/o/${ruleAddress(rules[0][0])}` }, rules[0][0]), '.']
+          ? ['There are objects of ', element('a', { href: `/o/${ruleAddress(rules[0][0])}` }, rules[0][0]), '.']
           : 'To begin, count the objects of a deposit.',
       ),
       indexNote(head),

@@ -3,7 +3,7 @@
 import { censusAddress, depositAddress, go, objectAddress } from '../shared/address.js';
 import { census, deposit } from '../requests/archive.js';
 import { objectNames, patternOf } from '../patterns/code.js';
-import { copyButton, make, plural, withCommas } from '../shared/dom.js';
+import { copyButton, element, plural, withCommas } from '../shared/dom.js';
 import { thumbnail } from '../drawing/draw.js';
 import { groupsOf } from '../patterns/parts.js';
 import { ruleText } from '../patterns/rule.js';
@@ -14,9 +14,9 @@ const SIDE = 48;
 
 /** The bar of a count, relative to the greatest one. */
 function barOf(count, most, more = '') {
-  const bar = make('span', { class: `bar ${more}`, 'aria-hidden': 'true', hidden: count === 0 });
+  const bar = element('span', { class: `bar ${more}`, 'aria-hidden': 'true', hidden: count === 0 });
   bar.style.inlineSize = `${100 * count / most}%`;
-  return make('td', { class: 'bars' }, bar);
+  return element('td', { class: 'bars' }, bar);
 }
 
 const LIFE = 'B3/S23';
@@ -59,7 +59,7 @@ export class Labels {
 
   /** The choice to split groups, if there is one: parts are known only in Conway's Life. */
   get choice() {
-    const box = make('input', {
+    const box = element('input', {
       id: 'split',
       type: 'checkbox',
       checked: this.#isSplit,
@@ -70,16 +70,16 @@ export class Labels {
       },
     });
     return this.rule === LIFE
-      ? [make('p', { class: 'check' },
+      ? [element('p', { class: 'check' },
         box,
-        make('label', { for: box.id, title: 'Count each object in a group separately' }, 'Split groups'),
+        element('label', { for: box.id, title: 'Count each object in a group separately' }, 'Split groups'),
       )]
       : [];
   }
 
   /** The line below a code, which is updated when the groups are known. */
   lineOf(code) {
-    const line = make('small');
+    const line = element('small');
     this.#lines.set(code, line);
     this.#fill(code);
     return line;
@@ -96,8 +96,8 @@ export class Labels {
       grouped && `${name || parts ? ' · ' : ''}${withCommas(grouped)} ${this.#isSplit ? 'of them' : 'more'} in groups`,
     ].filter(Boolean);
     this.#lines.get(code)?.replaceChildren(...[
-      name ? make('span', { class: 'name' }, name) : null,
-      groups.length ? make('span', { class: 'groups' }, groups) : null,
+      name ? element('span', { class: 'name' }, name) : null,
+      groups.length ? element('span', { class: 'groups' }, groups) : null,
     ].filter(Boolean));
   }
 
@@ -114,10 +114,10 @@ export class Labels {
 }
 
 /** The note above a table of objects: its counts differ from those that readers may know from elsewhere. */
-export const countNote = () => make('p', { class: 'hint' },
+export const countNote = () => element('p', { class: 'hint' },
   'A cluster counts as one object even if its parts never change each other, '
     + 'so these counts differ from apgsearch’s. ',
-  make('a', { href: '/about#census' }, 'How objects are counted'),
+  element('a', { href: '/about#census' }, 'How objects are counted'),
 );
 
 /**
@@ -128,23 +128,23 @@ export const countNote = () => make('p', { class: 'hint' },
  */
 export function objectRow({ code, count }, most, labels) {
   const pattern = patternOf(code);
-  return make('tr', {},
-    make('td', { class: 'drawn' }, pattern ? thumbnail(pattern, SIDE, SIDE) : null),
-    make('th', { scope: 'row' },
-      make('a', { href: objectAddress(labels.rule, code) }, make('code', {}, code)),
+  return element('tr', {},
+    element('td', { class: 'drawn' }, pattern ? thumbnail(pattern, SIDE, SIDE) : null),
+    element('th', { scope: 'row' },
+      element('a', { href: objectAddress(labels.rule, code) }, element('code', {}, code)),
       labels.lineOf(code),
     ),
-    make('td', { class: 'number' }, withCommas(count)),
+    element('td', { class: 'number' }, withCommas(count)),
     barOf(count, most),
   );
 }
 
 /** The row of the clusters without a code. */
 export function unresolvedRow(count, most) {
-  return make('tr', {},
-    make('td', { class: 'drawn' }),
-    make('th', { scope: 'row' }, 'unresolved', make('small', {}, 'no code within the limit')),
-    make('td', { class: 'number' }, withCommas(count)),
+  return element('tr', {},
+    element('td', { class: 'drawn' }),
+    element('th', { scope: 'row' }, 'unresolved', element('small', {}, 'no code within the limit')),
+    element('td', { class: 'number' }, withCommas(count)),
     barOf(count, most, 'none'),
   );
 }
@@ -162,7 +162,7 @@ export const mostOf = (rows, unresolved) => (
 
 /** The table of the objects; the archive sorts by code, and this table by count at first. */
 function objectsTable(number, found, labels) {
-  const body = make('tbody');
+  const body = element('tbody');
   let [rows, lines, last] = [[], new Map(), null];
   const show = (order) => body.replaceChildren(...sorted(rows, COLUMNS, order).map((row) => lines.get(row)), last);
   const heads = new Heads(COLUMNS, keptOrder({ sort: 'count', isUp: false }), (order) => {
@@ -177,8 +177,8 @@ function objectsTable(number, found, labels) {
     show(heads.order);
   };
   labels.changed();
-  return make('table', { class: 'census' }, make('caption', { class: 'aside' }, `Objects of census ${number}`),
-    make('thead', {}, make('tr', {}, make('td', {}), heads.cells, make('td', {}))), body);
+  return element('table', { class: 'census' }, element('caption', { class: 'aside' }, `Objects of census ${number}`),
+    element('thead', {}, element('tr', {}, element('td', {}), heads.cells, element('td', {}))), body);
 }
 
 function steadyText(found) {
@@ -201,24 +201,28 @@ export async function censusPage(page, given) {
   page.keys['['] = () => { if (number > 1) go(censusAddress(number - 1)); };
   page.keys[']'] = () => { go(censusAddress(number + 1)); };
   page.root.append(
-    make('h1', { tabindex: -1 }, `Census ${withCommas(number)}`),
-    make('p', { class: 'by' },
+    element('h1', { tabindex: -1 }, `Census ${withCommas(number)}`),
+    element('p', { class: 'by' },
       'Of ',
-      make('a', { href: place }, `generation ${withCommas(found.generation)} of deposit ${found.deposit}`),
+      element('a', { href: place }, `generation ${withCommas(found.generation)} of deposit ${found.deposit}`),
       `${record.name ? `, ${record.name}` : ''}, under ${rule}, with periods up to ${withCommas(found.limit)}.`,
     ),
-    make('dl', { class: 'facts' }, [
+    element('dl', { class: 'facts' }, [
       ['Clusters', withCommas(found.clusters)],
       ['Objects', plural(rows.length, 'code')],
       ['Unresolved', withCommas(found.unresolved)],
-    ].map(([term, told]) => make('div', {}, make('dt', {}, term), make('dd', {}, told)))),
-    make('p', { class: found.steady ? 'steady yes' : 'steady' }, steadyText(found)),
+    ].map(([term, description]) => element('div', {}, element('dt', {}, term), element('dd', {}, description)))),
+    element('p', { class: found.steady ? 'steady yes' : 'steady' }, steadyText(found)),
     countNote(),
     ...labels.choice,
     objectsTable(number, found, labels),
-    make('p', { class: 'row' },
-      make('a', { class: 'button', href: `/censuses/${number}/csv`, download: `census-${number}.csv` }, 'Download CSV'),
-      make('a', { class: 'address', href: url }, url),
+    element('p', { class: 'row' },
+      element('a', {
+        class: 'button',
+        href: `/censuses/${number}/csv`,
+        download: `census-${number}.csv`,
+      }, 'Download CSV'),
+      element('a', { class: 'address', href: url }, url),
       copyButton('Copy the address', () => url, page.say),
     ),
   );

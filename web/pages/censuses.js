@@ -1,7 +1,7 @@
 // Lists of censuses from the index: all of them, those of a deposit, and those that contain an object.
 
 import { censusAddress, depositAddress } from '../shared/address.js';
-import { make, plural, withCommas } from '../shared/dom.js';
+import { element, plural, withCommas } from '../shared/dom.js';
 import {
   censusesOfObject,
   censusesWith,
@@ -21,16 +21,16 @@ const nameOf = async (id) => (await indexedDeposit(id))?.name || null;
 async function censusLine(row, count) {
   const place = depositAddress(row.deposit, row.generation);
   const name = await nameOf(row.deposit);
-  return make('tr', {},
-    make('th', { scope: 'row' }, make('a', { href: censusAddress(row.id) }, withCommas(row.id))),
-    make('td', {},
-      make('a', { href: place }, `${name ?? `Deposit ${row.deposit}`}`),
-      make('small', {}, `deposit ${withCommas(row.deposit)}, generation ${withCommas(row.generation)}`),
-      make('small', { class: 'narrow' }, `${row.steady ? 'steady' : 'not steady'}, ${row.day}`),
+  return element('tr', {},
+    element('th', { scope: 'row' }, element('a', { href: censusAddress(row.id) }, withCommas(row.id))),
+    element('td', {},
+      element('a', { href: place }, `${name ?? `Deposit ${row.deposit}`}`),
+      element('small', {}, `deposit ${withCommas(row.deposit)}, generation ${withCommas(row.generation)}`),
+      element('small', { class: 'narrow' }, `${row.steady ? 'steady' : 'not steady'}, ${row.day}`),
     ),
-    count === undefined ? null : make('td', { class: 'number' }, withCommas(count)),
-    make('td', { class: 'number' }, withCommas(row.clusters)),
-    make('td', {}, row.steady ? 'steady' : 'not steady', make('small', {}, row.day)),
+    count === undefined ? null : element('td', { class: 'number' }, withCommas(count)),
+    element('td', { class: 'number' }, withCommas(row.clusters)),
+    element('td', {}, row.steady ? 'steady' : 'not steady', element('small', {}, row.day)),
   );
 }
 
@@ -48,8 +48,8 @@ const COLUMNS = [
 
 /** A table of censuses, the newest first until it is sorted, with a button that shows more. */
 async function censusTable(page, rows, caption, counts) {
-  const body = make('tbody');
-  const more = make('button', { type: 'button', class: 'more' });
+  const body = element('tbody');
+  const more = element('button', { type: 'button', class: 'more' });
   const columns = COLUMNS.filter(({ id }) => counts || id !== 'count');
   let shown = [];
   const show = async () => {
@@ -73,12 +73,12 @@ async function censusTable(page, rows, caption, counts) {
   more.addEventListener('click', show);
   await show();
   return [
-    make('table', { class: 'census censuses' },
-      make('caption', { class: 'aside' }, caption),
-      make('thead', {}, make('tr', {}, heads.cells)),
+    element('table', { class: 'census censuses' },
+      element('caption', { class: 'aside' }, caption),
+      element('thead', {}, element('tr', {}, heads.cells)),
       body,
     ),
-    make('p', {}, more),
+    element('p', {}, more),
   ];
 }
 
@@ -87,8 +87,8 @@ export async function censusesSection(page, number) {
   const head = await indexHead();
   const rows = head ? await censusesWith((row) => row.deposit === number, page.signal) : [];
   if (rows.length === 0) return [];
-  return [make('section', { id: 'censuses' },
-    make('h2', {}, plural(rows.length, 'census', 'censuses')),
+  return [element('section', { id: 'censuses' },
+    element('h2', {}, plural(rows.length, 'census', 'censuses')),
     ...await censusTable(page, rows, `Censuses of deposit ${number}`),
     indexNote(head),
   )];
@@ -110,9 +110,9 @@ export async function occurrences(page, rule, code) {
     `Censuses that contain ${code}`,
     new Map(found.map(({ id, count }) => [id, count])),
   );
-  return [make('section', { id: 'occurrences' },
-    make('h2', {}, 'Where it occurs'),
-    make('p', {}, said),
+  return [element('section', { id: 'occurrences' },
+    element('h2', {}, 'Where it occurs'),
+    element('p', {}, said),
     ...table,
     indexNote(head),
   )];
@@ -121,12 +121,12 @@ export async function occurrences(page, rule, code) {
 /** The list of censuses, the newest first. */
 export async function censusesPage(page) {
   page.title('Censuses');
-  page.root.append(make('h1', { tabindex: -1 }, 'Censuses'));
+  page.root.append(element('h1', { tabindex: -1 }, 'Censuses'));
   const head = await indexHead();
   if (!head) {
-    page.root.append(make('p', { class: 'empty' },
+    page.root.append(element('p', { class: 'empty' },
       'This archive has no index, so you can only open a census by its number: ',
-      make('a', { href: '/find' }, 'find one'),
+      element('a', { href: '/find' }, 'find one'),
       '.',
     ));
     return;
@@ -134,11 +134,11 @@ export async function censusesPage(page) {
   const rows = await censusesWith(() => true, page.signal);
   if (rows.length === 0) {
     page.root.append(
-      make('p', { class: 'empty' }, 'There is no census yet. You can take one on the page of a deposit.'),
+      element('p', { class: 'empty' }, 'There is no census yet. You can take one on the page of a deposit.'),
     );
   } else {
     page.root.append(
-      make('p', { class: 'count' }, plural(rows.length, 'census', 'censuses')),
+      element('p', { class: 'count' }, plural(rows.length, 'census', 'censuses')),
       ...await censusTable(page, rows, 'Censuses, the newest first'),
     );
   }

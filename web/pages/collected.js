@@ -5,7 +5,7 @@ import { deposit, generation } from '../requests/archive.js';
 import { thumbnail } from '../drawing/draw.js';
 import { depositAddress } from '../shared/address.js';
 import { LONGEST_CAPTION } from '../shared/collection.js';
-import { make, plural, withCommas } from '../shared/dom.js';
+import { element, plural, withCommas } from '../shared/dom.js';
 import { sentenceOf } from '../requests/refusals.js';
 import { originOf, withOrigin } from '../patterns/writer.js';
 import { zipOf } from '../shared/zip.js';
@@ -32,38 +32,42 @@ export class Entry {
     this.page = page;
     this.name = `Deposit ${withCommas(item.number)}`;
     this.address = depositAddress(item.number, item.at);
-    this.place = make('span', { class: 'place' });
-    this.picture = make('span', { class: 'picture' });
-    this.heading = make('strong', {}, this.title);
-    this.facts = make('span', { class: 'facts' }, `No. ${withCommas(item.number)}`);
-    this.caption = make('p', { class: 'caption', dir: 'auto' });
+    this.place = element('span', { class: 'place' });
+    this.picture = element('span', { class: 'picture' });
+    this.heading = element('strong', {}, this.title);
+    this.facts = element('span', { class: 'facts' }, `No. ${withCommas(item.number)}`);
+    this.caption = element('p', { class: 'caption', dir: 'auto' });
     this.edit = this.#editPart(acts);
-    this.card = make('li', {},
-      make('a', { href: this.address }, this.picture, make('span', {}, this.place, ' ', this.heading), this.facts),
+    this.card = element('li', {},
+      element('a', { href: this.address },
+        this.picture,
+        element('span', {}, this.place, ' ', this.heading),
+        this.facts,
+      ),
       this.caption,
-      make('p', { class: 'on-paper address' }, location.host + this.address),
-      make('button', { type: 'button', class: 'quiet', click: () => acts.play(this) }, 'Play here'),
+      element('p', { class: 'on-paper address' }, location.host + this.address),
+      element('button', { type: 'button', class: 'quiet', click: () => acts.play(this) }, 'Play here'),
       this.edit,
     );
     this.showCaption();
   }
 
   #editPart(acts) {
-    const input = make('input', { maxlength: LONGEST_CAPTION, 'aria-label': `Caption of ${this.title}` });
+    const input = element('input', { maxlength: LONGEST_CAPTION, 'aria-label': `Caption of ${this.title}` });
     input.value = this.item.caption;
     input.addEventListener('change', () => {
       if (acts.caption(this, input.value)) this.showCaption();
       input.value = this.item.caption;
     });
-    const button = (label, text, act) => make('button', {
+    const button = (label, text, act) => element('button', {
       type: 'button',
       'aria-label': `${label}: ${this.title}`,
       title: label,
       click: act,
     }, text);
-    return make('div', { class: 'edit', hidden: true },
+    return element('div', { class: 'edit', hidden: true },
       input,
-      make('p', { class: 'row' },
+      element('p', { class: 'row' },
         button('Earlier', '↑', () => acts.move(this, -1)),
         button('Later', '↓', () => acts.move(this, 1)),
         button('Remove', 'Remove', () => acts.remove(this)),

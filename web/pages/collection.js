@@ -12,7 +12,7 @@ import {
   MOST_ITEMS,
   readCollection,
 } from '../shared/collection.js';
-import { copyButton, field, make, plural, refusal, withCommas } from '../shared/dom.js';
+import { copyButton, element, field, plural, refusal, withCommas } from '../shared/dom.js';
 import { COLLECTION, keepDraft } from '../shared/storage.js';
 import { Refused } from '../requests/refusals.js';
 import { save } from '../shared/save.js';
@@ -27,11 +27,11 @@ const refused = (sentence) => Object.assign(new Refused('out-of-limit'), { sente
 class Collection {
   /** @type {Entry[]} */
   entries = [];
-  heading = make('h1', { tabindex: -1, dir: 'auto' });
-  count = make('p', { class: 'count' });
-  list = make('ol', { class: 'cards collection' });
-  said = make('div', { 'aria-live': 'polite' });
-  screen = make('div');
+  heading = element('h1', { tabindex: -1, dir: 'auto' });
+  count = element('p', { class: 'count' });
+  list = element('ol', { class: 'cards collection' });
+  said = element('div', { 'aria-live': 'polite' });
+  screen = element('div');
 
   /** @param {string} list @param {any} page */
   constructor(list, page) {
@@ -137,13 +137,13 @@ class Collection {
 
   /** The form that is there while the collection is edited. */
   #form() {
-    const title = make('input', { id: 'title', maxlength: LONGEST_CAPTION, autocomplete: 'off' });
+    const title = element('input', { id: 'title', maxlength: LONGEST_CAPTION, autocomplete: 'off' });
     title.value = this.title;
     title.addEventListener('change', () => {
       this.#changed(() => { this.title = captionOf(title.value); });
       title.value = this.title;
     });
-    const added = make('input', { id: 'added', autocomplete: 'off', placeholder: '7, 7 at 30, or an address' });
+    const added = element('input', { id: 'added', autocomplete: 'off', placeholder: '7, 7 at 30, or an address' });
     const submit = async (event) => {
       event.preventDefault();
       this.said.replaceChildren();
@@ -153,10 +153,10 @@ class Collection {
         if (!this.page.signal.aborted) this.said.replaceChildren(refusal(error));
       }
     };
-    return make('form', { class: 'editing', hidden: true, submit },
+    return element('form', { class: 'editing', hidden: true, submit },
       field('Title', title),
       field('A deposit to add', added),
-      make('button', { id: 'add' }, 'Add'),
+      element('button', { id: 'add' }, 'Add'),
     );
   }
 
@@ -182,7 +182,7 @@ class Collection {
 
   /** The buttons of the whole collection. */
   #actionsPart() {
-    this.editButton = make('button', {
+    this.editButton = element('button', {
       type: 'button',
       id: 'edit',
       'aria-pressed': 'false',
@@ -193,12 +193,12 @@ class Collection {
       await Promise.all(this.entries.map((entry) => entry.draw()));
       if (!this.page.signal.aborted) globalThis.print();
     };
-    this.actions = make('div', { class: 'row' },
+    this.actions = element('div', { class: 'row' },
       copyButton('Copy the address', () => this.url, this.page.say),
-      make('button', { type: 'button', id: 'pack', click: () => this.#pack() }, 'Download all (ZIP)'),
-      make('button', { type: 'button', id: 'print', click: print }, 'Print'),
+      element('button', { type: 'button', id: 'pack', click: () => this.#pack() }, 'Download all (ZIP)'),
+      element('button', { type: 'button', id: 'print', click: print }, 'Print'),
     );
-    return make('div', { class: 'row share' }, this.actions, this.editButton);
+    return element('div', { class: 'row share' }, this.actions, this.editButton);
   }
 
   async #pack() {
@@ -206,11 +206,11 @@ class Collection {
     const { signal } = stop;
     const ended = () => stop.abort();
     this.page.signal.addEventListener('abort', ended);
-    const line = make('span');
+    const line = element('span');
     const came = (count) => line.replaceChildren(`Requesting the texts: ${count} of ${this.entries.length}…`);
-    this.said.replaceChildren(make('p', { class: 'row' },
+    this.said.replaceChildren(element('p', { class: 'row' },
       line,
-      make('button', { type: 'button', id: 'stop-packing', click: ended }, 'Stop'),
+      element('button', { type: 'button', id: 'stop-packing', click: ended }, 'Stop'),
     ));
     try {
       save(await packed([...this.entries], this, came, signal), 'collection.zip', 'application/zip');
@@ -227,9 +227,9 @@ class Collection {
   /** All parts of the page. */
   get parts() {
     const share = this.#actionsPart();
-    this.screen.append(make('div', { class: 'title' }, this.heading, this.count), this.sequence.root);
+    this.screen.append(element('div', { class: 'title' }, this.heading, this.count), this.sequence.root);
     const unread = this.unread > 0
-      ? make('p', { class: 'refusal', role: 'alert' },
+      ? element('p', { class: 'refusal', role: 'alert' },
         `${plural(this.unread, 'part')} of this address can’t be read. Perhaps it was cut: compare it with its source.`)
       : null;
     return [unread, this.screen, share, this.said, this.form, this.list].filter(Boolean);

@@ -1,6 +1,6 @@
 // The comments of a deposit, below its picture: the first lines, and a button that shows all.
 
-import { make, withCommas } from '../shared/dom.js';
+import { element, withCommas } from '../shared/dom.js';
 
 const FIRST = 3;
 
@@ -25,15 +25,15 @@ export function withoutScripts(comments) {
 export function commentsPart(given) {
   const comments = withoutScripts(given);
   if (comments.length === 0) return null;
-  const text = make('p', { class: 'comment', id: 'comments-text' });
+  const text = element('p', { class: 'comment', id: 'comments-text' });
   const show = (lines) => text.replaceChildren(lines.join('\n'));
-  const part = make('section', { class: 'comments', 'aria-label': 'Comments' }, text);
+  const part = element('section', { class: 'comments', 'aria-label': 'Comments' }, text);
   // One more line takes no more room than the button would.
   if (comments.length <= FIRST + 1) {
     show(comments);
     return part;
   }
-  const button = make('button', {
+  const button = element('button', {
     type: 'button',
     class: 'quiet',
     id: 'all-comments',

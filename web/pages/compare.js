@@ -3,7 +3,7 @@
 
 import { depositAddress } from '../shared/address.js';
 import { deposit, generation } from '../requests/archive.js';
-import { make, plural, refusal, withCommas } from '../shared/dom.js';
+import { element, plural, refusal, withCommas } from '../shared/dom.js';
 import { allDeposits } from '../requests/index.js';
 import { GENERATION_LIMIT } from '../shared/limits.js';
 import { Maker } from '../player/maker.js';
@@ -45,7 +45,7 @@ export async function sameDeposit({ rule, pattern }, signal) {
 
 /** One of the two. */
 class Side {
-  canvas = make('canvas', { class: 'large', role: 'img', tabindex: 0 });
+  canvas = element('canvas', { class: 'large', role: 'img', tabindex: 0 });
 
   constructor(number, from, record, name, page) {
     this.number = number;
@@ -55,9 +55,9 @@ class Side {
     this.view = new View(this.canvas, page.signal);
     this.maker = new Maker(null, GENERATION_LIMIT, page.signal);
     this.maker.begin(record, from);
-    this.link = make('a', {});
+    this.link = element('a', {});
     this.name = name ?? `Deposit ${number}`;
-    this.root = make('section', {}, make('h2', {}, this.link), make('div', { class: 'seen' }, this.canvas));
+    this.root = element('section', {}, element('h2', {}, this.link), element('div', { class: 'seen' }, this.canvas));
   }
 
   /** Shows the generation at a time: at rest the archive's own answer. Returns its pattern. */
@@ -92,18 +92,18 @@ class Clock {
     this.sides = sides;
     this.page = page;
     this.last = GENERATION_LIMIT - Math.max(...sides.map(({ from }) => from));
-    this.said = make('p', { id: 'verdict', role: 'status' });
-    this.play = make('button', { type: 'button', class: 'main', id: 'play', click: () => this.toggle() }, 'Play');
+    this.said = element('p', { id: 'verdict', role: 'status' });
+    this.play = element('button', { type: 'button', class: 'main', id: 'play', click: () => this.toggle() }, 'Play');
     const button = (id, label, time) => (
-      make('button', { type: 'button', id, click: () => this.go(time()) }, label)
+      element('button', { type: 'button', id, click: () => this.go(time()) }, label)
     );
-    this.number = make('span', { id: 'time' }, '0');
-    this.bar = make('p', { class: 'row' },
+    this.number = element('span', { id: 'time' }, '0');
+    this.bar = element('p', { class: 'row' },
       button('first', 'Beginning', () => 0),
       button('step-back', 'Step back', () => this.time - 1),
       this.play,
       button('step', 'Step', () => this.time + 1),
-      make('span', {}, 'Generations from there: ', this.number),
+      element('span', {}, 'Generations from there: ', this.number),
     );
   }
 
@@ -159,12 +159,12 @@ async function sideOf(given, page) {
 export async function comparePage(page) {
   const words = new URLSearchParams(location.search);
   page.title('Compare');
-  page.root.append(make('h1', { tabindex: -1 }, 'Compare'));
+  page.root.append(element('h1', { tabindex: -1 }, 'Compare'));
   const sides = await Promise.all(['one', 'other'].map((name) => sideOf(words.get(name), page)));
   const clock = new Clock(sides, page);
   page.root.append(
     clock.said,
-    make('div', { class: 'compared' }, sides.map(({ root }) => root)),
+    element('div', { class: 'compared' }, sides.map(({ root }) => root)),
     clock.bar,
   );
   Object.assign(page.keys, {

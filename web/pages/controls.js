@@ -1,7 +1,7 @@
 // The buttons under the canvas of a deposit, and the keys that do the same.
 
 import { depositAddress, go } from '../shared/address.js';
-import { icon, make, withCommas } from '../shared/dom.js';
+import { element, icon, withCommas } from '../shared/dom.js';
 import { keepSetting, setting } from '../shared/storage.js';
 import { GENERATION_LIMIT } from '../shared/limits.js';
 
@@ -13,23 +13,24 @@ const FIRST_GOAL = 100;
 const LATE = 300;
 
 const button = (label, text, click, more = {}) => (
-  make('button', { type: 'button', 'aria-label': label, title: label, click, ...more }, text)
+  element('button', { type: 'button', 'aria-label': label, title: label, click, ...more }, text)
 );
-const pair = (...inside) => make('span', { class: 'pair' }, inside);
-const labelled = (label, input) => pair(make('label', { for: input.id }, label), input);
+const pair = (...inside) => element('span', { class: 'pair' }, inside);
+const labelled = (label, input) => pair(element('label', { for: input.id }, label), input);
 
 /** The speed, which this browser remembers. */
 function speedPart(player) {
   player.speed = SPEEDS.find((rate) => String(rate) === setting('speed')) ?? player.speed;
-  const speed = make('select', { id: 'speed', change: () => keepSetting('speed', player.speed = Number(speed.value)) },
-    SPEEDS.map((rate) => make('option', { value: rate, selected: rate === player.speed }, `${withCommas(rate)}/s`)));
+  const change = () => keepSetting('speed', player.speed = Number(speed.value));
+  const speed = element('select', { id: 'speed', change },
+    SPEEDS.map((rate) => element('option', { value: rate, selected: rate === player.speed }, `${withCommas(rate)}/s`)));
   speed.title = 'Generations per second; from 120/s on, some generations are not shown';
   return labelled('Speed', speed);
 }
 
 /** Running to a generation. */
 function runPart(player) {
-  const goal = make('input', {
+  const goal = element('input', {
     id: 'run-to',
     type: 'number',
     min: 0,
@@ -50,8 +51,8 @@ function runPart(player) {
 }
 
 function viewParts(view, ages) {
-  const label = make('label', { for: 'ages', title: 'Young cells are orange, old ones blue' }, 'Color by age');
-  const aged = make('input', { id: 'ages', type: 'checkbox', change: async () => {
+  const label = element('label', { for: 'ages', title: 'Young cells are orange, old ones blue' }, 'Color by age');
+  const aged = element('input', { id: 'ages', type: 'checkbox', change: async () => {
     keepSetting('ages', aged.checked ? 'yes' : null);
     const late = setTimeout(() => label.replaceChildren('Counting…'), LATE);
     await ages.turn(aged.checked);
@@ -59,7 +60,7 @@ function viewParts(view, ages) {
     label.replaceChildren('Color by age');
   } });
   ages.isOn = aged.checked = setting('ages') === 'yes';
-  const grid = make('input', {
+  const grid = element('input', {
     id: 'grid',
     type: 'checkbox',
     checked: true,
@@ -74,7 +75,7 @@ function viewParts(view, ages) {
     zooms,
     fit,
     marks: [
-      pair(grid, make('label', { for: 'grid' }, 'Grid')),
+      pair(grid, element('label', { for: 'grid' }, 'Grid')),
       pair(aged, label),
     ],
   };
@@ -82,26 +83,26 @@ function viewParts(view, ages) {
 
 /** On a phone, the less important controls are behind a button. */
 function foldedPart(parts) {
-  const inside = make('span', { class: 'folded', id: 'view-parts' }, parts);
+  const inside = element('span', { class: 'folded', id: 'view-parts' }, parts);
   const open = button('View: size of cells, grid, colors', 'View', () => {
     open.setAttribute('aria-expanded', String(inside.classList.toggle('open')));
   }, { id: 'view-more', 'aria-expanded': 'false', 'aria-controls': 'view-parts' });
-  return [make('span', { class: 'at-right' }, open), inside];
+  return [element('span', { class: 'at-right' }, open), inside];
 }
 
 /** For a periodic pattern: a mark where it returns, and a button for looping there. `take` gets the period, or null. */
 function backPart(player) {
-  const loop = make('input', { id: 'loop', type: 'checkbox', change: () => { player.isLoop = loop.checked; } });
-  const part = make('span', { class: 'pair', hidden: true });
-  const ticks = make('datalist', { id: 'ticks' });
+  const loop = element('input', { id: 'loop', type: 'checkbox', change: () => { player.isLoop = loop.checked; } });
+  const part = element('span', { class: 'pair', hidden: true });
+  const ticks = element('datalist', { id: 'ticks' });
   const take = (period) => {
     player.period = period;
     part.hidden = period === null;
     if (period === null) return;
-    ticks.replaceChildren(make('option', { value: period }));
+    ticks.replaceChildren(element('option', { value: period }));
     part.replaceChildren(
       loop,
-      make('label', { for: 'loop' }, 'Loop'),
+      element('label', { for: 'loop' }, 'Loop'),
       button(
         `back at ${withCommas(period)}, the generation that equals generation 0`,
         `back at ${withCommas(period)}`,
@@ -121,7 +122,7 @@ export function controls(player, view, ages, turnFull) {
   const play = button('Play', icon('play'), () => toggle(1), { class: 'main', id: 'play' });
   const back = button('Play back', icon('back'), () => toggle(-1), { id: 'back' });
   const toggle = (direction) => (player.direction === direction ? player.pause() : player.play(direction));
-  const number = make('input', {
+  const number = element('input', {
     id: 'generation',
     type: 'number',
     min: 0,
@@ -129,7 +130,7 @@ export function controls(player, view, ages, turnFull) {
     inputmode: 'numeric',
     change: () => player.go(Number(number.value)),
   });
-  const slider = make('input', {
+  const slider = element('input', {
     id: 'slider',
     type: 'range',
     min: 0,
@@ -139,15 +140,15 @@ export function controls(player, view, ages, turnFull) {
     change: () => player.go(Number(slider.value)),
     input: () => { number.value = slider.value; },
   });
-  const step = make('select', { id: 'step-size' }, STEPS.map((size) => make('option', { value: size }, size)));
+  const step = element('select', { id: 'step-size' }, STEPS.map((size) => element('option', { value: size }, size)));
   const { parts, take } = backPart(player);
   const { zooms, fit, marks } = viewParts(view, ages);
   // Not every phone can do it.
   const full = document.fullscreenEnabled ? button('Full screen', icon('full'), turnFull, { id: 'full' }) : null;
-  const row = (...inside) => make('div', { class: 'controls-row' }, ...inside);
-  const bar = make('div', { class: 'controls', role: 'group', 'aria-label': 'Generations' },
+  const row = (...inside) => element('div', { class: 'controls-row' }, ...inside);
+  const bar = element('div', { class: 'controls', role: 'group', 'aria-label': 'Generations' },
     row(
-      make('span', { class: 'transport' },
+      element('span', { class: 'transport' },
         button('Generation 0', icon('first'), () => player.go(0), { id: 'first' }),
         back,
         button('One step back', icon('less'), () => player.step(-Number(step.value)), { id: 'step-back' }),
@@ -156,15 +157,15 @@ export function controls(player, view, ages, turnFull) {
       ),
       labelled('Generation', number),
       slider,
-      make('span', { class: 'at-right' }, fit),
+      element('span', { class: 'at-right' }, fit),
     ),
     row(speedPart(player), labelled('Step', step), runPart(player), parts, foldedPart([...marks, zooms, full])),
   );
   const changed = () => {
-    for (const [element, direction, label, name] of [[play, 1, 'Play', 'play'], [back, -1, 'Play back', 'back']]) {
+    for (const [control, direction, label, name] of [[play, 1, 'Play', 'play'], [back, -1, 'Play back', 'back']]) {
       const playing = player.direction === direction;
-      element.replaceChildren(icon(playing ? 'pause' : name));
-      element.ariaLabel = element.title = playing ? 'Pause' : label;
+      control.replaceChildren(icon(playing ? 'pause' : name));
+      control.ariaLabel = control.title = playing ? 'Pause' : label;
     }
   };
   return { bar, toggle, periodic: take, changed, at: (at) => { number.value = at; slider.value = at; } };

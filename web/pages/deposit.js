@@ -12,9 +12,9 @@ import {
   addLater,
   againButton,
   copyButton,
+  element,
   field,
   isMember,
-  make,
   plural,
   refusal,
   withCommas,
@@ -56,9 +56,9 @@ function kindText(found, limit) {
 
 /** The kind of the deposit, with a form for another limit. */
 function kindParts(number, record, page, periodic) {
-  const said = make('span', {}, '…');
-  const code = make('span', {}, '…');
-  const limit = make('input', {
+  const said = element('span', {}, '…');
+  const code = element('span', {}, '…');
+  const limit = element('input', {
     id: 'limit',
     type: 'number',
     min: 1,
@@ -79,7 +79,7 @@ function kindParts(number, record, page, periodic) {
       const name = found.code && rule === 'B3/S23' ? (await objectNames()).get(found.code) : null;
       code.replaceChildren(...(found.code
         ? [
-          make('a', { href: objectAddress(rule, found.code) }, make('code', {}, found.code)),
+          element('a', { href: objectAddress(rule, found.code) }, element('code', {}, found.code)),
           name ? ` ${name} ` : ' ',
           copyButton('Copy', () => found.code, page.say),
         ]
@@ -91,10 +91,10 @@ function kindParts(number, record, page, periodic) {
     }
   };
   ask();
-  const form = make('form', { class: 'inline', submit: ask },
-    make('label', { for: 'limit' }, 'limit'),
+  const form = element('form', { class: 'inline', submit: ask },
+    element('label', { for: 'limit' }, 'limit'),
     limit,
-    make('button', {}, 'Show'),
+    element('button', {}, 'Show'),
   );
   return [['Kind', [said, form]], ['Code', [code]]];
 }
@@ -105,7 +105,7 @@ function kindParts(number, record, page, periodic) {
  */
 function censusPart(shown, page) {
   const { part: member, input: name } = memberPart('census-member');
-  const limit = make('input', {
+  const limit = element('input', {
     id: 'census-limit',
     type: 'number',
     min: 1,
@@ -114,8 +114,8 @@ function censusPart(shown, page) {
     inputmode: 'numeric',
   });
   limit.value = USUAL_LIMIT;
-  const said = make('div');
-  const send = make('button', { id: 'count' }, 'Count the objects');
+  const said = element('div');
+  const send = element('button', { id: 'count' }, 'Count the objects');
   const ask = async (event) => {
     event.preventDefault();
     said.replaceChildren();
@@ -125,7 +125,7 @@ function censusPart(shown, page) {
       rememberMember(name.value);
       page.say('Counting…');
       const waiting = (time) => {
-        said.replaceChildren(make('p', { class: 'waiting' },
+        said.replaceChildren(element('p', { class: 'waiting' },
           'Many censuses come from your address, so this one waits. '
             + `It is sent again every ${plural(Math.ceil(time / 1000), 'second')}…`,
         ));
@@ -148,13 +148,13 @@ function censusPart(shown, page) {
       send.disabled = false;
     }
   };
-  return make('details', { class: 'panel', id: 'census' },
-    make('summary', {}, 'Count the objects'),
-    make('p', {},
+  return element('details', { class: 'panel', id: 'census' },
+    element('summary', {}, 'Count the objects'),
+    element('p', {},
       'A census counts the objects in this generation. The archive stores the count under a number. ',
-      make('a', { href: '/about#census' }, 'What is a census?'),
+      element('a', { href: '/about#census' }, 'What is a census?'),
     ),
-    make('form', { submit: ask },
+    element('form', { submit: ask },
       member,
       field('Longest period', limit, '60 finds all common objects. A larger one can take long on a large field.'),
       send,
@@ -165,18 +165,18 @@ function censusPart(shown, page) {
 
 /** The title, the author, and the member, who is added once the row of the deposit has arrived. */
 function heading(number, record, rows) {
-  const by = make('p', { class: 'by' }, record.author ? `By ${record.author}. ` : null);
+  const by = element('p', { class: 'by' }, record.author ? `By ${record.author}. ` : null);
   const { line, typed } = noteOf(number);
   rows.then(({ row }) => {
     if (!row) return;
-    by.append('Deposited by ', make('a', { href: memberAddress(row.member) }, row.member), '.');
+    by.append('Deposited by ', element('a', { href: memberAddress(row.member) }, row.member), '.');
     const said = typed === undefined ? null : learnMember(typed, row.member);
     if (said) line.append(` ${said}`);
   }, () => {});
-  return make('div', { class: 'title' },
-    make('h1', { tabindex: -1 },
+  return element('div', { class: 'title' },
+    element('h1', { tabindex: -1 },
       record.name ?? `Deposit ${number}`,
-      record.name ? make('small', {}, ` deposit ${withCommas(number)}`) : null,
+      record.name ? element('small', {}, ` deposit ${withCommas(number)}`) : null,
     ),
     by,
     line,
@@ -185,26 +185,26 @@ function heading(number, record, rows) {
 
 /** The links to the deposits before and after this one. */
 function neighbours(number, rows) {
-  const nav = make('nav', { class: 'pager', 'aria-label': 'Other deposits' },
-    number > 1 ? make('a', { href: depositAddress(number - 1) }, `← ${withCommas(number - 1)}`) : null,
+  const nav = element('nav', { class: 'pager', 'aria-label': 'Other deposits' },
+    number > 1 ? element('a', { href: depositAddress(number - 1) }, `← ${withCommas(number - 1)}`) : null,
   );
   rows.then(({ next }) => {
-    if (next) nav.append(make('a', { href: depositAddress(next.id) }, `${withCommas(next.id)} →`));
+    if (next) nav.append(element('a', { href: depositAddress(next.id) }, `${withCommas(next.id)} →`));
   }, () => {});
   return nav;
 }
 
 /** The canvas of a deposit, with the facts about the generation that it shows and where that came from. */
 class Stage {
-  canvas = make('canvas', { class: 'large', role: 'img', tabindex: 0 });
-  facts = { population: make('span'), box: make('span') };
-  said = make('div');
-  doubt = make('div');
-  end = make('p', { class: 'over end', role: 'status' });
-  hint = make('p', { class: 'over', hidden: true }, 'Click the pattern to zoom with the wheel, or hold Ctrl.');
-  badge = make('summary');
-  source = make('span');
-  equal = make('span');
+  canvas = element('canvas', { class: 'large', role: 'img', tabindex: 0 });
+  facts = { population: element('span'), box: element('span') };
+  said = element('div');
+  doubt = element('div');
+  end = element('p', { class: 'over end', role: 'status' });
+  hint = element('p', { class: 'over', hidden: true }, 'Click the pattern to zoom with the wheel, or hold Ctrl.');
+  badge = element('summary');
+  source = element('span');
+  equal = element('span');
 
   constructor(number, own, page) {
     this.page = page;
@@ -214,8 +214,8 @@ class Stage {
     this.player = new Player(number, page.signal, this);
     this.ages = new Ages((at) => this.player.made(at), (found) => this.view.showAges(found));
     this.bar = controls(this.player, this.view, this.ages, () => this.turnFull());
-    this.stage = make('div', { class: 'stage' },
-      make('div', { class: 'seen' }, this.canvas, this.hint, this.end),
+    this.stage = element('div', { class: 'stage' },
+      element('div', { class: 'seen' }, this.canvas, this.hint, this.end),
       this.bar.bar,
     );
   }
@@ -260,7 +260,7 @@ class Stage {
     if (isSame) {
       this.equal.replaceChildren(`At generation ${withCommas(at)} it matched the archive’s answer.`);
     } else {
-      this.doubt.replaceChildren(make('p', { class: 'refusal', role: 'alert' },
+      this.doubt.replaceChildren(element('p', { class: 'refusal', role: 'alert' },
         `The page’s generation ${withCommas(at)} differs from the archive’s. `
           + 'From here on, every generation comes from the archive.',
       ));
@@ -302,9 +302,9 @@ class Stage {
 
   /** What comes below the canvas and its controls. */
   get parts() {
-    const source = make('details', { class: 'source' },
+    const source = element('details', { class: 'source' },
       this.badge,
-      make('p', {}, this.source, ' ', this.equal, ' ', make('a', { href: '/about#proof' }, 'What is proved?')),
+      element('p', {}, this.source, ' ', this.equal, ' ', element('a', { href: '/about#proof' }, 'What is proved?')),
     );
     return [source, this.doubt, this.said, this.plot.figure];
   }
@@ -350,13 +350,13 @@ export async function depositPage(page, given, at = '0') {
     ['Rule', [ruleText(record.rule)]],
     ...kindParts(number, record, page, bar.periodic),
   ];
-  const censuses = make('div');
+  const censuses = element('div');
   page.root.append(...[
-    make('div', { class: 'screen' }, heading(number, record, rows), stage.stage),
+    element('div', { class: 'screen' }, heading(number, record, rows), stage.stage),
     ...stage.parts,
     commentsPart(record.comments),
-    make('dl', { class: 'facts' }, list.map(([term, told]) => (
-      make('div', {}, make('dt', {}, term), make('dd', {}, told))
+    element('dl', { class: 'facts' }, list.map(([term, description]) => (
+      element('div', {}, element('dt', {}, term), element('dd', {}, description))
     ))),
     text.part(),
     censusPart(text, page),

@@ -3,7 +3,7 @@
 import { objectAddress } from '../shared/address.js';
 import { total } from '../requests/archive.js';
 import { limitOf, objectNames, patternOf } from '../patterns/code.js';
-import { addLater, copyButton, make, plural } from '../shared/dom.js';
+import { addLater, copyButton, element, plural } from '../shared/dom.js';
 import { thumbnail } from '../drawing/draw.js';
 import { indexHead } from '../requests/index.js';
 import { objectFacts, objectParts } from './object.js';
@@ -17,8 +17,8 @@ export async function findPage(page, query) {
   page.title([text, query ? 'Found' : 'Find'].filter(Boolean).join(' · '));
   const head = await indexHead();
   page.root.append(
-    make('h1', { tabindex: -1 }, query ? 'Found' : 'Find'),
-    ...(head ? [formOf(query)] : [make('p', { class: 'empty' },
+    element('h1', { tabindex: -1 }, query ? 'Found' : 'Find'),
+    ...(head ? [formOf(query)] : [element('p', { class: 'empty' },
       'This archive has no search index, so deposits can’t be searched by name. '
         + 'Codes, numbers and members work without one: xq4_153, #7, census 3, member ann.',
     )]),
@@ -28,21 +28,21 @@ export async function findPage(page, query) {
     return;
   }
   page.root.append(
-    make('h2', {}, 'A haul'),
-    make('p', {},
+    element('h2', {}, 'A haul'),
+    element('p', {},
       'The objects in random soups, as counted by ',
-      make('code', {}, 'life-haul'),
+      element('code', {}, 'life-haul'),
       ': ',
-      make('a', { href: '/haul' }, 'show a table'),
+      element('a', { href: '/haul' }, 'show a table'),
       '.',
     ),
   );
   if (head) {
     page.root.append(
-      make('h2', {}, 'Lists'),
-      make('p', { class: 'row' },
-        make('a', { href: '/c' }, 'All censuses'),
-        make('a', { href: '/index/feed.xml' }, 'New deposits as a feed'),
+      element('h2', {}, 'Lists'),
+      element('p', { class: 'row' },
+        element('a', { href: '/c' }, 'All censuses'),
+        element('a', { href: '/index/feed.xml' }, 'New deposits as a feed'),
       ),
     );
   }
@@ -51,13 +51,13 @@ export async function findPage(page, query) {
 /** The parts of a group, each with a link to its page. */
 function groupPart(parts) {
   const one = (part) => (
-    part.code ? make('a', { href: objectAddress('B3/S23', part.code) }, partsText([part])) : partsText([part])
+    part.code ? element('a', { href: objectAddress('B3/S23', part.code) }, partsText([part])) : partsText([part])
   );
-  return make('p', { class: 'group' },
+  return element('p', { class: 'group' },
     'A group of objects that do not change each other: ',
     ...parts.flatMap((part, at) => [at === 0 ? '' : ' + ', one(part)]),
     '. The archive counts it as one object. ',
-    make('a', { href: '/about#census' }, 'Why?'),
+    element('a', { href: '/about#census' }, 'Why?'),
   );
 }
 
@@ -72,7 +72,7 @@ async function confirmedParts(parts, signal) {
   const texts = coded.map(({ name }, at) => `${name} ${plural(counts[at], 'time')}`);
   return texts.length === 0
     ? []
-    : [make('p', { class: 'hint', id: 'parts' }, `On their own, the archive has counted: ${texts.join(', ')}.`)];
+    : [element('p', { class: 'hint', id: 'parts' }, `On their own, the archive has counted: ${texts.join(', ')}.`)];
 }
 
 /** An object by its code: the archive gives the total of a code that it can open, and refuses any other text. */
@@ -80,7 +80,7 @@ export async function codePage(page, givenRule, givenCode) {
   const code = decodeURIComponent(givenCode).toLowerCase();
   const rule = ruleOfAddress(decodeURIComponent(givenRule));
   page.title(code);
-  const heading = make('h1', { tabindex: -1 }, make('code', {}, code));
+  const heading = element('h1', { tabindex: -1 }, element('code', {}, code));
   page.root.append(heading);
   const limit = limitOf(code);
   const count = await total(rule, code, limit, page.signal);
@@ -90,31 +90,31 @@ export async function codePage(page, givenRule, givenCode) {
   const called = [name, group ? partsText(group) : null].filter(Boolean).join(': ');
   if (called) {
     page.title(`${called} (${code})`);
-    heading.replaceChildren(called, make('small', {}, ' ', make('code', {}, code)));
+    heading.replaceChildren(called, element('small', {}, ' ', element('code', {}, code)));
   }
   const url = location.origin + objectAddress(plain, code);
   const pattern = patternOf(code);
-  const picture = make('div', { class: 'picture' }, thumbnail(pattern, 320, 200, `The object ${code}`));
-  const parts = make('div', { class: 'object-parts' });
-  const alone = make('div');
+  const picture = element('div', { class: 'picture' }, thumbnail(pattern, 320, 200, `The object ${code}`));
+  const parts = element('div', { class: 'object-parts' });
+  const alone = element('div');
   const period = code.startsWith('xs') ? 1 : limit;
   const facts = objectFacts(code, period, pattern);
   page.root.append(
-    make('div', { class: 'object' },
-      make('div', {}, picture),
-      make('div', {},
+    element('div', { class: 'object' },
+      element('div', {}, picture),
+      element('div', {},
         facts.list,
         ...(group ? [groupPart(group), alone] : []),
-        make('p', { class: 'total' },
-          make('strong', {}, plural(count, 'time')),
+        element('p', { class: 'total' },
+          element('strong', {}, plural(count, 'time')),
           ` in all censuses of deposits under ${plain}.`,
         ),
       ),
     ),
-    make('section', { class: 'share' },
-      make('h2', {}, 'Share'),
-      make('p', { class: 'row' },
-        make('a', { class: 'address', href: url }, url),
+    element('section', { class: 'share' },
+      element('h2', {}, 'Share'),
+      element('p', { class: 'row' },
+        element('a', { class: 'address', href: url }, url),
         copyButton('Copy the address', () => url, page.say),
       ),
       parts,
@@ -128,10 +128,10 @@ export async function codePage(page, givenRule, givenCode) {
     plain,
     picture,
     page,
-    { title: called, name, isGroup: group !== null, told: facts.told },
+    { title: called, name, isGroup: group !== null, listener: facts.listener },
   ));
   if (group) addLater(page, alone, confirmedParts(group, page.signal));
-  const occurs = make('div');
+  const occurs = element('div');
   page.root.append(occurs);
   addLater(page, occurs, occurrences(page, plain, code));
 }

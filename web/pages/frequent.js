@@ -2,7 +2,7 @@
 
 import { objectLink } from './box.js';
 import { objectNames } from '../patterns/code.js';
-import { make, plural, withCommas } from '../shared/dom.js';
+import { element, plural, withCommas } from '../shared/dom.js';
 import { indexHead, objectsOfRule } from '../requests/index.js';
 import { partsOf, partsText } from '../patterns/parts.js';
 
@@ -22,9 +22,9 @@ export async function frequentParts(signal) {
     const parts = names.has(code) ? null : await partsOf(code);
     return objectLink({ code, name: names.get(code) ?? (parts ? partsText(parts) : null), more: withCommas(count) });
   }));
-  return [make('section', { id: 'frequent' },
-    make('h2', {}, 'Most frequent objects'),
-    make('div', { class: 'object-links' }, links),
-    make('p', {}, make('a', { href: '/o' }, `All ${plural(objects.length, 'object')}`)),
+  return [element('section', { id: 'frequent' },
+    element('h2', {}, 'Most frequent objects'),
+    element('div', { class: 'object-links' }, links),
+    element('p', {}, element('a', { href: '/o' }, `All ${plural(objects.length, 'object')}`)),
   )];
 }

@@ -4,7 +4,7 @@
 import { go } from '../shared/address.js';
 import { Labels, countNote, mostOf, objectRow, unresolvedRow } from './census.js';
 import { objectNames } from '../patterns/code.js';
-import { field, make, plural, withCommas } from '../shared/dom.js';
+import { element, field, plural, withCommas } from '../shared/dom.js';
 import { draft, entryState, keepDraft, keepEntryState } from '../shared/storage.js';
 import { passFiles, passedFiles } from '../shared/handover.js';
 import { Heads, keepOrder, keptOrder, sorted } from '../shared/sorts.js';
@@ -93,12 +93,12 @@ function soupButton(haul, number) {
     go('/new');
   };
   const title = `Soup ${number}: see it, deposit it`;
-  return make('button', { type: 'button', click, 'aria-label': title }, withCommas(number));
+  return element('button', { type: 'button', click, 'aria-label': title }, withCommas(number));
 }
 
 function rowOf(object, most, haul, labels) {
   const row = objectRow(object, most, labels);
-  row.append(make('td', { class: 'number' }, soupButton(haul, object.first)));
+  row.append(element('td', { class: 'number' }, soupButton(haul, object.first)));
   return row;
 }
 
@@ -112,7 +112,7 @@ const COLUMNS = [
 /** The last row of the table: the clusters without a code. */
 function lastRow(haul, most) {
   const row = unresolvedRow(haul.unresolved, most);
-  row.append(make('td'));
+  row.append(element('td'));
   return row;
 }
 
@@ -121,8 +121,8 @@ function lastRow(haul, most) {
  * how many are shown.
  */
 function objectsOf(haul, labels) {
-  const [body, foot] = [make('tbody'), make('tfoot')];
-  const more = make('button', { type: 'button' });
+  const [body, foot] = [element('tbody'), element('tfoot')];
+  const more = element('button', { type: 'button' });
   let objects = [];
   let most = 1;
   let shown = 0;
@@ -156,13 +156,13 @@ function objectsOf(haul, labels) {
   show();
   const [code, count, first] = heads.cells;
   return [
-    make('table', { class: 'census haul' },
-      make('caption', { class: 'aside' }, 'Objects of the haul'),
-      make('thead', {}, make('tr', {}, make('td'), code, count, make('td', { class: 'bars' }), first)),
+    element('table', { class: 'census haul' },
+      element('caption', { class: 'aside' }, 'Objects of the haul'),
+      element('thead', {}, element('tr', {}, element('td'), code, count, element('td', { class: 'bars' }), first)),
       body,
       foot,
     ),
-    make('p', {}, more),
+    element('p', {}, more),
   ];
 }
 
@@ -174,19 +174,19 @@ function shownHaul(haul, labels) {
     ['Unresolved', withCommas(haul.unresolved)],
   ];
   return [
-    make('p', { class: 'by' },
+    element('p', { class: 'by' },
       `Soups ${withCommas(haul.first)} to ${withCommas(haul.first + Math.max(haul.soups, 1) - 1)} of `,
-      make('code', {}, haul.root),
+      element('code', {}, haul.root),
       `${symmetryWords(haul.symmetry)}, at generation ${withCommas(haul.generation)} under ${haul.rule}, `
         + `with periods up to ${withCommas(haul.limit)}.`,
     ),
-    make('dl', { class: 'facts' }, facts.map(([term, told]) => (
-      make('div', {}, make('dt', {}, term), make('dd', {}, told))
+    element('dl', { class: 'facts' }, facts.map(([term, description]) => (
+      element('div', {}, element('dt', {}, term), element('dd', {}, description))
     ))),
     countNote(),
     ...labels.choice,
     ...objectsOf(haul, labels),
-    make('p', { class: 'hint' },
+    element('p', { class: 'hint' },
       'This page shows the file’s table, which the archive has not checked. '
         + 'If you deposit a soup, the archive counts it itself.',
     ),
@@ -198,11 +198,11 @@ const DRAFT = 'haul';
 
 export async function haulPage(page) {
   page.title('Haul');
-  const place = make('div');
+  const place = element('div');
   const show = async (text, name) => {
     const names = await objectNames();
     const haul = text === null ? null : readTable(text);
-    const refused = make('p', { class: 'refusal', role: 'alert' }, `${name} is not a whole table of life-haul.`);
+    const refused = element('p', { class: 'refusal', role: 'alert' }, `${name} is not a whole table of life-haul.`);
     const labels = haul ? new Labels(haul.rule, names) : null;
     place.replaceChildren(...(haul ? shownHaul(haul, labels) : [refused]));
     labels?.findGroups(haul.objects, page.signal).catch(() => {});
@@ -218,7 +218,7 @@ export async function haulPage(page) {
     const file = files[0];
     if (file) await show(file.size > LONGEST_TABLE ? null : await file.text(), file.name ?? 'The text');
   };
-  const input = make('input', {
+  const input = element('input', {
     id: 'haul-file',
     type: 'file',
     accept: '.csv,text/csv',
@@ -226,7 +226,7 @@ export async function haulPage(page) {
   });
   page.taken = take;
   page.root.append(
-    make('h1', { tabindex: -1 }, 'A haul'),
+    element('h1', { tabindex: -1 }, 'A haul'),
     field(
       'A table of life-haul',
       input,

@@ -2,7 +2,7 @@
 // frequent objects.
 
 import { collectionAddress, readCollection } from '../shared/collection.js';
-import { make, plural } from '../shared/dom.js';
+import { element, plural } from '../shared/dom.js';
 import { load } from '../shared/groups.js';
 import { indexHead } from '../requests/index.js';
 import { cards, deposits } from './list.js';
@@ -48,11 +48,11 @@ function chosenCollection() {
 function chosenPart(page, { title, items }) {
   if (items.length === 0) return '';
   const rows = items.slice(0, CHOSEN).map(({ number, at, caption }) => ({ id: number, at, name: caption }));
-  return make('section', { id: 'chosen' },
-    make('h2', {}, title || 'Chosen'),
+  return element('section', { id: 'chosen' },
+    element('h2', {}, title || 'Chosen'),
     cards(page, rows),
-    make('p', {},
-      make('a', { href: collectionAddress({ title, items }) }, `All ${plural(items.length, 'deposit')} in a row`),
+    element('p', {},
+      element('a', { href: collectionAddress({ title, items }) }, `All ${plural(items.length, 'deposit')} in a row`),
     ),
   );
 }
@@ -73,30 +73,30 @@ async function play(page, places, items) {
 
 /** The first page of the archive. */
 export async function homePage(page) {
-  const examples = EXAMPLES.flatMap(([text, href]) => [' ', make('a', { class: 'example', href }, text)]);
-  const frequent = make('div', { class: 'frequent' });
+  const examples = EXAMPLES.flatMap(([text, href]) => [' ', element('a', { class: 'example', href }, text)]);
+  const frequent = element('div', { class: 'frequent' });
   const chosen = chosenCollection();
   const places = {
-    seen: make('div', { class: 'seen' }),
-    line: make('p', { class: 'hint' }),
-    play: make('a', { class: 'button main', id: 'play-it' }, 'Play'),
+    seen: element('div', { class: 'seen' }),
+    line: element('p', { class: 'hint' }),
+    play: element('a', { class: 'button main', id: 'play-it' }, 'Play'),
   };
   page.root.append(
-    make('div', { class: 'welcome' },
-      make('div', {},
-        make('h1', { tabindex: -1 }, 'A club’s archive of Game of Life patterns'),
-        make('p', { class: 'lead' },
+    element('div', { class: 'welcome' },
+      element('div', {},
+        element('h1', { tabindex: -1 }, 'A club’s archive of Game of Life patterns'),
+        element('p', { class: 'lead' },
           'Play a pattern, count its objects, and cite any generation by an address that never changes. '
             + 'Whenever you stop, the generation shown comes from a program that is proved correct. ',
-          make('a', { href: '/about' }, 'About this archive'),
+          element('a', { href: '/about' }, 'About this archive'),
         ),
-        make('p', { class: 'row' },
+        element('p', { class: 'row' },
           places.play,
-          make('a', { class: 'button', id: 'deposit-yours', href: '/new' }, 'Deposit yours'),
+          element('a', { class: 'button', id: 'deposit-yours', href: '/new' }, 'Deposit yours'),
         ),
-        make('p', { class: 'examples' }, 'Try the search box:', examples),
+        element('p', { class: 'examples' }, 'Try the search box:', examples),
       ),
-      make('div', { class: 'playing' }, places.seen, places.line),
+      element('div', { class: 'playing' }, places.seen, places.line),
     ),
     chosenPart(page, chosen),
   );

@@ -2,7 +2,7 @@
 
 import { afterAddress, depositAddress, go, memberAddress } from '../shared/address.js';
 import { deposit, depositsAfter, generation, lastDeposit } from '../requests/archive.js';
-import { make, plural, withCommas } from '../shared/dom.js';
+import { element, plural, withCommas } from '../shared/dom.js';
 import { thumbnail } from '../drawing/draw.js';
 import { allDeposits, indexHead, indexNote } from '../requests/index.js';
 import { entryState, keepEntryState } from '../shared/storage.js';
@@ -36,16 +36,16 @@ function drawLater(page) {
  */
 function card(page, row, watch) {
   const { id, at = 0, name: known, member, population, rule } = row;
-  const picture = make('div', { class: 'picture' });
-  const name = make('strong', {}, known || `Deposit ${id}`);
+  const picture = element('div', { class: 'picture' });
+  const name = element('strong', {}, known || `Deposit ${id}`);
   const facts = [
     `No. ${id}${at ? `, generation ${withCommas(at)}` : ''}`,
     member,
     population === undefined ? null : plural(population, 'cell'),
     rule === 'B3/S23' ? null : rule,
   ].filter(Boolean).join(' · ');
-  const item = make('li', {},
-    make('a', { href: depositAddress(id, at) }, picture, name, make('span', { class: 'facts' }, facts)),
+  const item = element('li', {},
+    element('a', { href: depositAddress(id, at) }, picture, name, element('span', { class: 'facts' }, facts)),
   );
   item.draw = async () => {
     try {
@@ -65,18 +65,18 @@ function card(page, row, watch) {
 
 export function cards(page, rows) {
   const watch = drawLater(page);
-  return make('ul', { class: 'cards' }, rows.map((row) => card(page, row, watch)));
+  return element('ul', { class: 'cards' }, rows.map((row) => card(page, row, watch)));
 }
 
 /** The links to older and newer deposits, which have keys. */
 function pager(page, older, newer) {
   page.keys['['] = () => { if (older) go(older); };
   page.keys[']'] = () => { if (newer) go(newer); };
-  return make('nav', { class: 'pager', 'aria-label': 'More deposits' },
-    older ? make('a', { href: afterAddress(0) }, 'Oldest') : null,
-    older ? make('a', { href: older, rel: 'next' }, '← Older') : null,
-    newer ? make('a', { href: newer, rel: 'prev' }, 'Newer →') : null,
-    newer ? make('a', { href: '/d' }, 'Newest') : null,
+  return element('nav', { class: 'pager', 'aria-label': 'More deposits' },
+    older ? element('a', { href: afterAddress(0) }, 'Oldest') : null,
+    older ? element('a', { href: older, rel: 'next' }, '← Older') : null,
+    newer ? element('a', { href: newer, rel: 'prev' }, 'Newer →') : null,
+    newer ? element('a', { href: '/d' }, 'Newest') : null,
   );
 }
 
@@ -93,8 +93,8 @@ export function walk(page) {
 
 /** The first deposits of a list as cards, and a button that shows more. */
 export function shownRows(page, rows) {
-  const list = make('div');
-  const more = make('button', { type: 'button', class: 'more' });
+  const list = element('div');
+  const more = element('button', { type: 'button', class: 'more' });
   let shown = 0;
   const show = (number) => {
     list.append(cards(page, rows.slice(shown, shown + number)));
@@ -108,12 +108,12 @@ export function shownRows(page, rows) {
   });
   show(entryState().shown ?? SHOWN);
   walk(page);
-  return [list, make('p', {}, more)];
+  return [list, element('p', {}, more)];
 }
 
-const nothing = () => make('p', { class: 'empty' },
+const nothing = () => element('p', { class: 'empty' },
   'There is nothing here yet. ',
-  make('a', { href: '/new' }, 'Make a deposit'),
+  element('a', { href: '/new' }, 'Make a deposit'),
   ' and be the first.',
 );
 
@@ -124,29 +124,33 @@ export async function deposits(page, given) {
   // The first page has its own heading.
   const isFirst = page.root.querySelector('h1') !== null;
   page.title(isFirst ? '' : 'Deposits');
-  page.root.append(isFirst ? make('h2', {}, 'Newest deposits') : make('h1', { tabindex: -1 }, 'Deposits'));
+  page.root.append(isFirst ? element('h2', {}, 'Newest deposits') : element('h1', { tabindex: -1 }, 'Deposits'));
   const last = await lastDeposit(page.signal);
   const after = given === undefined ? Math.max(0, last - SHOWN) : Number(given);
   const rows = (await depositsAfter(after, page.signal)).slice(0, SHOWN).reverse();
   walk(page);
   if (rows.length === 0) {
-    page.root.append(last === 0 ? nothing() : make('p', { class: 'empty' },
+    page.root.append(last === 0 ? nothing() : element('p', { class: 'empty' },
       `There is no deposit after ${withCommas(after)}; the newest is `,
-      make('a', { href: depositAddress(last) }, withCommas(last)),
+      element('a', { href: depositAddress(last) }, withCommas(last)),
       '.',
     ));
     return last;
   }
   const [first, end] = [rows.at(-1).id, rows[0].id];
   page.root.append(
-    make('p', { class: 'count' }, `${withCommas(first)} to ${withCommas(end)} of ${withCommas(Math.max(last, end))}`),
+    element('p', { class: 'count' },
+      `${withCommas(first)} to ${withCommas(end)} of ${withCommas(Math.max(last, end))}`,
+    ),
     cards(page, rows),
     pager(
       page,
       after > 0 ? afterAddress(Math.max(0, after - SHOWN)) : null,
       end < last ? afterAddress(after + SHOWN) : null,
     ),
-    isFirst ? '' : make('p', {}, make('a', { href: '/l' }, 'Make a collection'), ' of deposits in an order of yours'),
+    isFirst
+      ? ''
+      : element('p', {}, element('a', { href: '/l' }, 'Make a collection'), ' of deposits in an order of yours'),
   );
   page.say(`${plural(rows.length, 'deposit')}, ${first} to ${end}.`);
   return last;
@@ -192,8 +196,8 @@ async function listedOf(member, said, signal) {
 /** The deposits of a member, the newest first; with a number, those before it. */
 export async function depositsOf(page, member, before = Infinity) {
   page.title(`Deposits of ${member}`);
-  const said = make('p', { class: 'count' }, 'Looking…');
-  page.root.append(make('h1', { tabindex: -1 }, `Deposits of ${member}`), said);
+  const said = element('p', { class: 'count' }, 'Looking…');
+  page.root.append(element('h1', { tabindex: -1 }, `Deposits of ${member}`), said);
   const head = await indexHead();
   const all = head ? await indexedOf(head, member, said, page.signal) : await listedOf(member, said, page.signal);
   const rows = all.filter((row) => row.id < Number(before));

@@ -4,7 +4,7 @@
 import { depositAddress, memberAddress } from '../shared/address.js';
 import { depositRows, sendDeposit } from '../requests/archive.js';
 import { collectionAddress, MOST_ITEMS } from '../shared/collection.js';
-import { field, isMember, make, plural, refusal, withCommas } from '../shared/dom.js';
+import { element, field, isMember, plural, refusal, withCommas } from '../shared/dom.js';
 import { thumbnail } from '../drawing/draw.js';
 import { cutButton, oldChoice, readGiven, refusedBy } from '../patterns/input.js';
 import { draft, keepDraft } from '../shared/storage.js';
@@ -48,10 +48,10 @@ class Row {
     this.file = file;
     this.changed = changed;
     this.name = pathOf(file);
-    this.picture = make('td', { class: 'drawn' });
-    this.facts = make('small');
-    this.outcome = make('td', { class: 'outcome' });
-    this.line = make('tr', {}, this.picture, make('th', { scope: 'row' }, this.name, this.facts), this.outcome);
+    this.picture = element('td', { class: 'drawn' });
+    this.facts = element('small');
+    this.outcome = element('td', { class: 'outcome' });
+    this.line = element('tr', {}, this.picture, element('th', { scope: 'row' }, this.name, this.facts), this.outcome);
   }
 
   /** Loads and reads the file. */
@@ -128,10 +128,11 @@ class Row {
   say(text = '') {
     this.line.className = this.refused ? 'bad' : '';
     if (this.kept !== null) {
-      this.outcome.replaceChildren(make('a', { href: depositAddress(this.kept) }, `deposit ${withCommas(this.kept)}`));
+      const href = depositAddress(this.kept);
+      this.outcome.replaceChildren(element('a', { href }, `deposit ${withCommas(this.kept)}`));
     } else {
       this.outcome.replaceChildren(
-        make('span', { class: 'reason' }, this.refused ?? ''),
+        element('span', { class: 'reason' }, this.refused ?? ''),
         this.refused === null ? text : this.where,
         ...(this.read?.fault?.isTooMany ? [' ', this.#cut()] : []),
       );
@@ -196,12 +197,16 @@ async function sendRow(row, member, more, page) {
 }
 
 /** @param {Row[]} rows @param {string} caption */
-const tableOf = (rows, caption) => make('table', { class: 'census files' },
-  make('caption', { class: 'aside' }, caption),
-  make('thead', {},
-    make('tr', {}, make('td', {}), make('th', { scope: 'col' }, 'File'), make('th', { scope: 'col' }, 'Result')),
+const tableOf = (rows, caption) => element('table', { class: 'census files' },
+  element('caption', { class: 'aside' }, caption),
+  element('thead', {},
+    element('tr', {},
+      element('td', {}),
+      element('th', { scope: 'col' }, 'File'),
+      element('th', { scope: 'col' }, 'Result'),
+    ),
   ),
-  make('tbody', {}, rows.map(({ line }) => line)),
+  element('tbody', {}, rows.map(({ line }) => line)),
 );
 
 /** Links to collections of the deposits of files, in the order of the table. @param {Row[]} rows */
@@ -211,7 +216,7 @@ function collectionLinks(rows) {
   const begins = Array.from({ length: Math.ceil(items.length / MOST_ITEMS) }, (_, at) => at * MOST_ITEMS);
   return begins.flatMap((begin, at) => [
     ' · ',
-    make('a', {
+    element('a', {
       class: 'in-order',
       href: collectionAddress({ title, items: items.slice(begin, begin + MOST_ITEMS) }),
     }, begins.length === 1 ? 'as a collection' : `as a collection, part ${at + 1}`),
@@ -231,48 +236,48 @@ export class Table {
   constructor(page, ended) {
     this.page = page;
     this.member = memberPart('many-member');
-    this.author = make('input', { id: 'many-author', maxlength: LONGEST_TEXT, autocomplete: 'off' });
-    this.name = make('input', { id: 'many-name', type: 'checkbox' });
-    this.folder = make('input', { id: 'many-folder', type: 'checkbox' });
-    this.folders = make('p', { class: 'check', hidden: true },
+    this.author = element('input', { id: 'many-author', maxlength: LONGEST_TEXT, autocomplete: 'off' });
+    this.name = element('input', { id: 'many-name', type: 'checkbox' });
+    this.folder = element('input', { id: 'many-folder', type: 'checkbox' });
+    this.folders = element('p', { class: 'check', hidden: true },
       this.folder,
-      make('label', { for: 'many-folder' }, ' Add the folder of each file as a comment, which searches find'),
+      element('label', { for: 'many-folder' }, ' Add the folder of each file as a comment, which searches find'),
     );
-    this.send = make('button', { class: 'main', id: 'send-many' });
+    this.send = element('button', { class: 'main', id: 'send-many' });
     this.old = oldChoice(
       'many-old',
       true,
       'Read files that are not UTF-8 as windows-1252',
       (asOld) => this.#choose({ asOld }),
     );
-    this.bar = make('progress', { hidden: true, 'aria-label': 'Files done' });
-    this.count = make('p', { class: 'count', role: 'status' });
-    this.said = make('div');
-    this.seen = make('p');
-    this.instead = make('button', {
+    this.bar = element('progress', { hidden: true, 'aria-label': 'Files done' });
+    this.count = element('p', { class: 'count', role: 'status' });
+    this.said = element('div');
+    this.seen = element('p');
+    this.instead = element('button', {
       type: 'button',
       class: 'quiet',
       id: 'text-instead',
       click: ended,
     }, 'Paste a text instead');
-    this.tables = make('div');
-    this.form = make('form', { submit: (event) => this.#submit(event) },
+    this.tables = element('div');
+    this.form = element('form', { submit: (event) => this.#submit(event) },
       this.member.part,
-      make('p', { class: 'check' },
+      element('p', { class: 'check' },
         this.name,
-        make('label', { for: 'many-name' }, ' Use file names for patterns that have no name'),
+        element('label', { for: 'many-name' }, ' Use file names for patterns that have no name'),
       ),
       this.folders,
       this.old,
       field('Author', this.author, 'Added to files without an author. Leave it empty to change nothing.'),
-      make('p', { class: 'row' }, this.send, this.bar),
+      element('p', { class: 'row' }, this.send, this.bar),
     );
-    this.root = make('section', { class: 'many' },
+    this.root = element('section', { class: 'many' },
       this.count,
       this.seen,
       this.form,
       this.said,
-      make('p', {}, this.instead),
+      element('p', {}, this.instead),
       this.tables,
     );
   }
@@ -286,12 +291,12 @@ export class Table {
     const open = new Set([...this.tables.querySelectorAll('details[open]')].map((one) => one.dataset.reason));
     this.tables.replaceChildren(
       ...(good.length ? [tableOf(good, 'The files and their results')] : []),
-      ...[...groups].map(([reason, rows]) => make('details', {
+      ...[...groups].map(([reason, rows]) => element('details', {
         class: 'refused-files',
         'data-reason': reason,
         open: open.has(reason),
       },
-      make('summary', {}, `${withCommas(rows.length)} refused: ${reason}`),
+      element('summary', {}, `${withCommas(rows.length)} refused: ${reason}`),
       tableOf(rows, reason))),
     );
   }
@@ -322,7 +327,7 @@ export class Table {
     const isDone = kept > 0 && this.open.length === 0 && this.owner;
     this.seen.replaceChildren(...(isDone
       ? [
-        make('a', { id: 'see-them', href: memberAddress(this.owner) }, `${withCommas(kept)} deposited: see them`),
+        element('a', { id: 'see-them', href: memberAddress(this.owner) }, `${withCommas(kept)} deposited: see them`),
         ...collectionLinks(this.rows),
       ]
       : []));
@@ -398,7 +403,7 @@ export class Table {
     const { row } = last ? await depositRows(last.kept, this.page.signal) : { row: null };
     if (!row) return;
     const text = learnMember(this.member.typed(), row.member);
-    if (text) this.said.replaceChildren(make('p', { class: 'note' }, text));
+    if (text) this.said.replaceChildren(element('p', { class: 'note' }, text));
     this.owner = row.member;
     keepTable(this.rows, this.owner);
   }

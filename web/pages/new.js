@@ -4,7 +4,7 @@
 import { depositAddress, go } from '../shared/address.js';
 import { lastDeposit, sendDeposit } from '../requests/archive.js';
 import { sameDeposit } from './compare.js';
-import { field, isMember, make, plural, refusal, withCommas } from '../shared/dom.js';
+import { element, field, isMember, plural, refusal, withCommas } from '../shared/dom.js';
 import { Editor } from '../drawing/editor.js';
 import { cutButton, oldChoice, readGiven, refusedBy } from '../patterns/input.js';
 import { draft, keepDraft } from '../shared/storage.js';
@@ -41,9 +41,9 @@ class Content {
     this.page = page;
     this.text = text;
     this.token = token;
-    this.said = make('div', { 'aria-live': 'polite' });
+    this.said = element('div', { 'aria-live': 'polite' });
     this.editor = new Editor(page, (pattern) => this.#draw(pattern));
-    this.preview = make('div', { class: 'preview' }, this.editor.root, this.said);
+    this.preview = element('div', { class: 'preview' }, this.editor.root, this.said);
     this.texts = {
       name: this.#textInput('text-name', 'no name yet'),
       author: this.#textInput('text-author', 'no author yet'),
@@ -51,7 +51,7 @@ class Content {
   }
 
   #textInput(id, placeholder) {
-    const input = make('input', {
+    const input = element('input', {
       id,
       maxlength: LONGEST_TEXT,
       autocomplete: 'off',
@@ -124,8 +124,8 @@ class Content {
     this.#resting = setTimeout(async () => {
       const found = await sameDeposit(record, this.page.signal).catch(() => null);
       if (!found || this.record !== record) return;
-      this.said.append(make('p', { class: 'note', id: 'same' },
-        make('a', { href: depositAddress(found.number) }, `Deposit ${withCommas(found.number)}`),
+      this.said.append(element('p', { class: 'note', id: 'same' },
+        element('a', { href: depositAddress(found.number) }, `Deposit ${withCommas(found.number)}`),
         ` has the same cells${found.turn ? `, ${found.turn}` : ''}.`,
       ));
     }, RESTED);
@@ -150,7 +150,7 @@ class Content {
   }
 
   /** Offers the file name as a name. */
-  offer = make('button', { type: 'button', id: 'offer', hidden: true, click: () => {
+  offer = element('button', { type: 'button', id: 'offer', hidden: true, click: () => {
     this.texts.name.value = baseName(this.fileName);
     this.#compose();
   } });
@@ -180,7 +180,7 @@ class Content {
   /** Shows how this page reads the file, before the archive has it. */
   #seen() {
     if (!this.read) {
-      return [make('p', { class: 'empty' }, 'Press cells to draw them. Two fingers zoom, and so does the wheel.')];
+      return [element('p', { class: 'empty' }, 'Press cells to draw them. Two fingers zoom, and so does the wheel.')];
     }
     const { record, notes, isOld, fault } = this.read;
     const old = isOld
@@ -202,8 +202,8 @@ class Content {
     const facts = `${name ? `${name}: ` : ''}${plural(pattern.population, 'cell')}, `
       + `${pattern.width} by ${pattern.height}, ${ruleText(rule)}`;
     return [
-      make('p', {}, facts),
-      ...notes.map((note) => make('p', { class: 'note' }, note)),
+      element('p', {}, facts),
+      ...notes.map((note) => element('p', { class: 'note' }, note)),
       ...old,
     ];
   }
@@ -225,7 +225,7 @@ async function takeFile(content, file, page) {
 
 /** The area for dropping, choosing or pasting files. */
 function dropPart(content, take, page) {
-  const chooser = make('input', {
+  const chooser = element('input', {
     id: 'file',
     class: 'aside',
     type: 'file',
@@ -238,18 +238,18 @@ function dropPart(content, take, page) {
     if (files.length > 0) take(files);
     else page.sayNothing(NO_FILES);
   };
-  const folder = make('input', { id: 'folder', class: 'aside', type: 'file', webkitdirectory: true, change: found });
+  const folder = element('input', { id: 'folder', class: 'aside', type: 'file', webkitdirectory: true, change: found });
   content.text.addEventListener('input', () => {
     content.take(new TextEncoder().encode(content.text.value), false);
     keepDraft('pattern', content.text.value);
   });
-  return make('div', { class: 'drop' },
-    make('p', {}, 'Or drop files or a folder anywhere:'),
-    make('p', { class: 'row' },
+  return element('div', { class: 'drop' },
+    element('p', {}, 'Or drop files or a folder anywhere:'),
+    element('p', { class: 'row' },
       chooser,
-      make('label', { class: 'button', for: 'file' }, 'Choose files'),
+      element('label', { class: 'button', for: 'file' }, 'Choose files'),
       folder,
-      make('label', { class: 'button', for: 'folder' }, 'Choose a folder'),
+      element('label', { class: 'button', for: 'folder' }, 'Choose a folder'),
     ),
     field(
       'Text of the pattern',
@@ -266,13 +266,13 @@ async function send(content, { input: name, typed }, said, page) {
   if (!TOKEN.test(content.token.value)) throw new Refused('bad-token');
   rememberMember(name.value);
   const waiting = (error) => {
-    said.replaceChildren(make('p', {}, error.name === 'too-many-requests'
+    said.replaceChildren(element('p', {}, error.name === 'too-many-requests'
       ? 'The archive is busy; trying again…'
       : 'No reply yet; sending it again with the same token…'));
     page.say(said.textContent);
   };
   page.say('Sending…');
-  said.replaceChildren(make('p', { class: 'waiting' }, 'Sending…'));
+  said.replaceChildren(element('p', { class: 'waiting' }, 'Sending…'));
   const last = await lastDeposit(page.signal).catch(() => 0);
   const number = await sendDeposit(name.value, content.token.value, content.bytes, waiting, page.signal);
   page.say(`Stored as deposit ${number}.`);
@@ -284,8 +284,8 @@ async function send(content, { input: name, typed }, said, page) {
 /** The fields for one file, and what happens when they are sent. */
 function singlePart(content, token, page) {
   const member = memberPart('member', `Your name here: 1 to ${LONGEST_MEMBER} characters, a to z, 0 to 9 and "-".`);
-  const said = make('div', { id: 'sent' });
-  const button = make('button', { class: 'main', id: 'send' }, 'Deposit');
+  const said = element('div', { id: 'sent' });
+  const button = element('button', { class: 'main', id: 'send' }, 'Deposit');
   let asked = '';
   const submit = async (event) => {
     event.preventDefault();
@@ -293,7 +293,7 @@ function singlePart(content, token, page) {
     // A deposit stays for good, so it asks once whether an empty one is meant.
     if (content.record?.pattern.population === 0 && asked !== token.value) {
       asked = token.value;
-      said.replaceChildren(make('p', { class: 'refusal', role: 'alert' },
+      said.replaceChildren(element('p', { class: 'refusal', role: 'alert' },
         'This pattern has no live cells. Press Deposit again to store it all the same.',
       ));
       return;
@@ -310,17 +310,20 @@ function singlePart(content, token, page) {
       button.disabled = false;
     }
   };
-  const part = make('div', {},
-    make('div', { class: 'texts' },
+  const part = element('div', {},
+    element('div', { class: 'texts' },
       field('Name', content.texts.name, 'Added if the file has none.'),
       field('Author', content.texts.author),
     ),
     content.offer,
     member.part,
-    make('p', { class: 'row' }, button, make('span', { class: 'hint' }, 'A deposit can’t be changed or deleted.')),
+    element('p', { class: 'row' },
+      button,
+      element('span', { class: 'hint' }, 'A deposit can’t be changed or deleted.'),
+    ),
     said,
-    make('details', {},
-      make('summary', {}, 'Token'),
+    element('details', {},
+      element('summary', {}, 'Token'),
       field('Token', token, 'Made of the file. Sent again under the same token, a file is kept once.'),
     ),
   );
@@ -356,7 +359,7 @@ function takerOf(form, single, content, page) {
 
 export function depositForm(page) {
   page.title('New deposit');
-  const text = make('textarea', {
+  const text = element('textarea', {
     id: 'pattern',
     rows: 4,
     spellcheck: 'false',
@@ -364,7 +367,7 @@ export function depositForm(page) {
     autocomplete: 'off',
     placeholder: 'x = 3, y = 3, rule = B3/S23\nbo$2bo$3o!',
   });
-  const token = make('input', {
+  const token = element('input', {
     id: 'token',
     maxlength: LONGEST_TOKEN,
     autocapitalize: 'none',
@@ -373,11 +376,11 @@ export function depositForm(page) {
   });
   const content = new Content(text, token, page);
   const { part, submit } = singlePart(content, token, page);
-  const form = make('form', { class: 'deposit', submit },
+  const form = element('form', { class: 'deposit', submit },
     content.preview,
-    make('div', {}, dropPart(content, (files) => page.taken(files), page), part),
+    element('div', {}, dropPart(content, (files) => page.taken(files), page), part),
   );
-  page.root.append(make('h1', { tabindex: -1 }, 'New deposit'), form);
+  page.root.append(element('h1', { tabindex: -1 }, 'New deposit'), form);
   page.taken = takerOf(form, part, content, page);
   const typed = draft('pattern');
   const texts = content.drafts;

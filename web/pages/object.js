@@ -2,7 +2,7 @@
 // it up.
 
 import { objectAddress } from '../shared/address.js';
-import { copyButton, make, plural, withCommas } from '../shared/dom.js';
+import { copyButton, element, plural, withCommas } from '../shared/dom.js';
 import { thumbnail } from '../drawing/draw.js';
 import { Maker } from '../player/maker.js';
 import { speedText } from '../patterns/pattern.js';
@@ -20,28 +20,28 @@ export const KINDS = { s: 'still life', p: 'oscillator', q: 'spaceship' };
 
 /**
  * The kind, the period and the cells of an object, and a spaceship's speed. What only the phases say is added by
- * `told`.
+ * `listener`.
  * @param {string} code
  * @param {number} period
  * @param {object} pattern
  */
 export function objectFacts(code, period, pattern) {
-  const cells = make('span', {}, period === 1 ? withCommas(pattern.population) : '…');
-  const speed = make('span', {}, '…');
+  const cells = element('span', {}, period === 1 ? withCommas(pattern.population) : '…');
+  const speed = element('span', {}, '…');
   const facts = [
     ['Kind', KINDS[code[1]]],
     ['Period', withCommas(period)],
     ['Cells', cells],
     code[1] === 'q' ? ['Speed', speed] : null,
   ].filter(Boolean);
-  const told = ({ least, isSame, moved }) => {
+  const listener = ({ least, isSame, moved }) => {
     cells.replaceChildren(`${withCommas(least)}${isSame ? '' : ' in the smallest phase'}`);
     speed.replaceChildren(speedText(moved.column, moved.row, period));
   };
-  const list = make('dl', { class: 'facts' }, facts.map(([term, said]) => (
-    make('div', {}, make('dt', {}, term), make('dd', {}, said))
+  const list = element('dl', { class: 'facts' }, facts.map(([term, said]) => (
+    element('div', {}, element('dt', {}, term), element('dd', {}, said))
   )));
-  return { list, told };
+  return { list, listener };
 }
 
 /**
@@ -90,7 +90,7 @@ function playButton(picture, phases, code, signal) {
     timer = null;
     button.replaceChildren('Play');
   };
-  const button = make('button', { type: 'button', id: 'play-object', click: () => {
+  const button = element('button', { type: 'button', id: 'play-object', click: () => {
     if (timer !== null) {
       stop();
       return;
@@ -112,9 +112,9 @@ function lookUp(code, rule, { isGroup, name }) {
     isGroup ? null : ['Catagolue', `https://catagolue.hatsya.com/object/${code}/${place}`],
     page ? ['LifeWiki', `https://conwaylife.com/wiki/${page}`] : null,
   ].filter(Boolean);
-  return links.length === 0 ? null : make('p', { class: 'look-up' },
+  return links.length === 0 ? null : element('p', { class: 'look-up' },
     'Look it up: ',
-    links.flatMap(([text, href], at) => [at === 0 ? '' : ', ', make('a', { href, rel: 'noreferrer' }, text)]),
+    links.flatMap(([text, href], at) => [at === 0 ? '' : ', ', element('a', { href, rel: 'noreferrer' }, text)]),
     '.',
   );
 }
@@ -140,32 +140,32 @@ export async function objectParts(
   ruleWord,
   picture,
   page,
-  { title = '', name = null, isGroup = false, told = (_found) => {} } = {},
+  { title = '', name = null, isGroup = false, listener = (_found) => {} } = {},
 ) {
   const rule = readRule(ruleWord);
   const text = () => textOf(pattern, code, ruleText(rule), title);
-  const load = make('button', {
+  const load = element('button', {
     type: 'button',
     id: 'load-object',
     click: () => save(text(), `${code}.rle`, 'text/plain'),
   }, 'Download');
   const copy = copyButton('Copy as RLE', text, page.say);
   const found = period > 1 ? await phasesOf(pattern, rule, period, page.signal) : null;
-  if (found) told(found);
+  if (found) listener(found);
   const phases = found?.phases ?? [];
   const play = phases.length > 1 ? playButton(picture, phases, code, page.signal) : null;
   const said = period > MOST_PHASES
     ? `The first ${MOST_PHASES} of ${plural(period, 'phase')}, computed by your browser`
     : `${plural(period, 'phase')}, computed by your browser`;
   const drawn = phases.length > 1
-    ? [make('details', { id: 'phases' },
-      make('summary', {}, said),
-      make('div', { class: 'phases' }, phases.map((phase, at) => thumbnail(phase, SIDE, SIDE, `Phase ${at}`))),
+    ? [element('details', { id: 'phases' },
+      element('summary', {}, said),
+      element('div', { class: 'phases' }, phases.map((phase, at) => thumbnail(phase, SIDE, SIDE, `Phase ${at}`))),
     )]
     : [];
-  if (play && !page.signal.aborted) picture.after(make('p', {}, play));
+  if (play && !page.signal.aborted) picture.after(element('p', {}, play));
   return [
-    make('p', { class: 'row' }, copy, load),
+    element('p', { class: 'row' }, copy, load),
     ...drawn,
     ...[lookUp(code, ruleText(rule), { isGroup, name })].filter(Boolean),
   ];

@@ -3,7 +3,7 @@
 
 import { depositAddress } from '../shared/address.js';
 import { deposit, generation } from '../requests/archive.js';
-import { icon, make, withCommas } from '../shared/dom.js';
+import { element, icon, withCommas } from '../shared/dom.js';
 import { GENERATION_LIMIT } from '../shared/limits.js';
 import { Maker } from '../player/maker.js';
 import { paint, sizeFor } from '../drawing/draw.js';
@@ -14,9 +14,9 @@ const [SHOWN, LAST] = [100, 300];
 const [ROOM, LARGEST] = [1.5, 8];
 
 export class Playing {
-  canvas = make('canvas', { id: 'playing', role: 'img' });
-  link = make('a', {});
-  pause = make('button', { type: 'button', id: 'pause', hidden: true, click: () => this.#toggle() });
+  canvas = element('canvas', { id: 'playing', role: 'img' });
+  link = element('a', {});
+  pause = element('button', { type: 'button', id: 'pause', hidden: true, click: () => this.#toggle() });
   /** What it begins with: the generation and its record; and the generation at which it begins again. */
   first = 0;
   record = null;

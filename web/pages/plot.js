@@ -1,7 +1,7 @@
 // A plot of the population over time: of the generations that were shown and, in the background, of all from the first
 // on. A click opens one.
 
-import { make, withCommas } from '../shared/dom.js';
+import { element, withCommas } from '../shared/dom.js';
 import { GENERATION_LIMIT } from '../shared/limits.js';
 
 const HEIGHT = 48;
@@ -17,13 +17,13 @@ export class Plot {
 
   /** A plot that calls `go` with the generation that is clicked. @param {(at: number) => void} go */
   constructor(go) {
-    this.canvas = make('canvas', { class: 'plot', role: 'img', click: (event) => {
+    this.canvas = element('canvas', { class: 'plot', role: 'img', click: (event) => {
       const box = this.canvas.getBoundingClientRect();
       go(Math.min(Math.round((event.clientX - box.left) / box.width * this.#length), GENERATION_LIMIT));
     } });
     this.canvas.redraw = () => this.#draw();
-    this.words = make('figcaption', { class: 'source' });
-    this.figure = make('figure', { class: 'population' }, this.canvas, this.words);
+    this.words = element('figcaption', { class: 'source' });
+    this.figure = element('figure', { class: 'population' }, this.canvas, this.words);
   }
 
   /** How many generations the axis has: as many as are known. */

@@ -2,7 +2,7 @@
 
 import { addressOf, isSearch, namedLines } from './box.js';
 import { go } from '../shared/address.js';
-import { field, make, plural, withCommas } from '../shared/dom.js';
+import { element, field, plural, withCommas } from '../shared/dom.js';
 import { NOTHING, addComments, allDeposits, indexHead, indexNote, search } from '../requests/index.js';
 import { shownRows } from './list.js';
 import { readRule, ruleText } from '../patterns/rule.js';
@@ -39,7 +39,7 @@ export function searchAddress(asked) {
 }
 
 function input(id, type, value) {
-  const found = make('input', {
+  const found = element('input', {
     id,
     type,
     autocapitalize: 'none',
@@ -59,7 +59,7 @@ function rangeField([name, label, type], [least, greatest]) {
   return {
     name,
     value: () => [from.value, to.value],
-    part: make('fieldset', { class: 'range' }, make('legend', {}, label), from, make('span', {}, 'to'), to),
+    part: element('fieldset', { class: 'range' }, element('legend', {}, label), from, element('span', {}, 'to'), to),
   };
 }
 
@@ -80,21 +80,21 @@ export function searchForm(asked = NOTHING) {
     go(words === '' || isSearch(address) ? searchAddress({ text: words, ...more }) : address);
   };
   const open = asked === NOTHING || all.some(({ value }) => [value()].flat().some(Boolean));
-  return make('form', { class: 'search', role: 'search', submit },
-    make('div', { class: 'row' },
+  return element('form', { class: 'search', role: 'search', submit },
+    element('div', { class: 'row' },
       field('Name, code, rule or comment', text),
-      make('button', { class: 'main' }, 'Search'),
+      element('button', { class: 'main' }, 'Search'),
     ),
-    make('details', { open },
-      make('summary', {}, 'Rule, size, day'),
-      make('div', { class: 'fields' }, all.map(({ part }) => part)),
+    element('details', { open },
+      element('summary', {}, 'Rule, size, day'),
+      element('div', { class: 'fields' }, all.map(({ part }) => part)),
     ),
   );
 }
 
 /** The deposits that match the query in an address. */
 export async function results(page, query) {
-  const said = make('p', { class: 'count', role: 'status' }, 'Reading the index…');
+  const said = element('p', { class: 'count', role: 'status' }, 'Reading the index…');
   page.root.append(said);
   const head = await indexHead();
   if (!head) {

@@ -2,19 +2,19 @@
 
 import { Ages } from '../player/ages.js';
 import { controls, keysOf } from './controls.js';
-import { againButton, make, plural, refusal, withCommas } from '../shared/dom.js';
+import { againButton, element, plural, refusal, withCommas } from '../shared/dom.js';
 import { Player } from '../player/player.js';
 import { View } from '../drawing/view.js';
 
 /** The player of a collection: a canvas with its controls, and buttons to the deposit before and the next one. */
 export class Sequence {
-  canvas = make('canvas', { class: 'large', role: 'img', tabindex: 0 });
-  link = make('a', { id: 'now' });
-  caption = make('span', { class: 'caption', dir: 'auto' });
-  place = make('span', { id: 'place' });
-  source = make('p', { class: 'source' });
-  said = make('div');
-  bar = make('div');
+  canvas = element('canvas', { class: 'large', role: 'img', tabindex: 0 });
+  link = element('a', { id: 'now' });
+  caption = element('span', { class: 'caption', dir: 'auto' });
+  place = element('span', { id: 'place' });
+  source = element('p', { class: 'source' });
+  said = element('div');
+  bar = element('div');
   /** The entry that is shown, and the player of its deposit. @type {import('./collected.js').Entry | null} */
   entry = null;
   player = null;
@@ -26,12 +26,12 @@ export class Sequence {
     this.page = page;
     this.view = new View(this.canvas, page.signal);
     page.signal.addEventListener('abort', () => this.#end.abort());
-    const button = (id, text, by) => make('button', { type: 'button', id, click: () => this.go(by) }, text);
+    const button = (id, text, by) => element('button', { type: 'button', id, click: () => this.go(by) }, text);
     this.before = button('before', '← Previous', -1);
     this.next = button('next', 'Next →', 1);
-    this.root = make('div', { class: 'stage sequence' },
-      make('div', { class: 'row' }, this.before, this.place, this.next, this.link, this.caption),
-      make('div', { class: 'seen' }, this.canvas),
+    this.root = element('div', { class: 'stage sequence' },
+      element('div', { class: 'row' }, this.before, this.place, this.next, this.link, this.caption),
+      element('div', { class: 'seen' }, this.canvas),
       this.bar,
       this.source,
       this.said,
@@ -118,7 +118,7 @@ export class Sequence {
 
   compared(at, isSame) {
     if (isSame) return;
-    this.said.replaceChildren(make('p', { class: 'refusal', role: 'alert' },
+    this.said.replaceChildren(element('p', { class: 'refusal', role: 'alert' },
       `The page’s generation ${withCommas(at)} differs from the archive’s, which is shown from here on.`,
     ));
   }

@@ -1,8 +1,8 @@
 // The generation of a deposit that is shown: its address, its text, and depositing it.
 
 import { depositAddress, go } from '../shared/address.js';
-import { collectionAddress, readCollection } from '../shared/collection.js';
-import { copyButton, make, refusal, withCommas } from '../shared/dom.js';
+import { collectionAddress, LONGEST_ADDRESS, MOST_ITEMS, readCollection } from '../shared/collection.js';
+import { copyButton, element, refusal, withCommas } from '../shared/dom.js';
 import { load } from '../shared/groups.js';
 import { COLLECTION, COPIED, draft, keepDraft } from '../shared/storage.js';
 import { LONGEST_SIDE } from '../shared/limits.js';
@@ -27,12 +27,12 @@ export class Share {
     this.first = own.record;
     this.name = this.first.name ?? `Deposit ${number}`;
     this.page = page;
-    this.address = make('a', { class: 'address' });
-    this.text = make('textarea', { id: 'text', readonly: true, rows: 8, spellcheck: 'false', wrap: 'off' });
-    this.load = make('a', { class: 'button', click: (event) => this.#save(event) }, 'RLE');
-    this.details = make('details', { toggle: () => this.#fill() },
-      make('summary', {}, 'Text'),
-      make('label', { for: 'text', class: 'aside' }, 'Text of the generation'),
+    this.address = element('a', { class: 'address' });
+    this.text = element('textarea', { id: 'text', readonly: true, rows: 8, spellcheck: 'false', wrap: 'off' });
+    this.load = element('a', { class: 'button', click: (event) => this.#save(event) }, 'RLE');
+    this.details = element('details', { toggle: () => this.#fill() },
+      element('summary', {}, 'Text'),
+      element('label', { for: 'text', class: 'aside' }, 'Text of the generation'),
       this.text,
     );
   }
@@ -114,7 +114,7 @@ export class Share {
   depositPart() {
     const { pattern } = this.whole.record;
     if (Math.max(pattern.width, pattern.height) > LONGEST_SIDE) {
-      return make('span', {},
+      return element('span', {},
         `It is ${withCommas(pattern.width)} by ${withCommas(pattern.height)}, `
           + `and the archive takes patterns of up to ${withCommas(LONGEST_SIDE)} by ${withCommas(LONGEST_SIDE)}.`,
       );
@@ -123,12 +123,12 @@ export class Share {
       passFiles([new File([this.file], this.fileName)]);
       go('/new');
     };
-    return make('button', { type: 'button', id: 'deposit-generation', click }, 'Deposit this generation');
+    return element('button', { type: 'button', id: 'deposit-generation', click }, 'Deposit this generation');
   }
 
   /** What saves the generation that is seen. The part for pictures is loaded once this is opened. */
   #downloads() {
-    const pictures = make('div');
+    const pictures = element('div');
     const open = async () => {
       if (pictures.childElementCount > 0) return;
       try {
@@ -138,32 +138,39 @@ export class Share {
         pictures.replaceChildren(refusal(error));
       }
     };
-    return make('details', { class: 'panel', id: 'download', toggle: open },
-      make('summary', {}, 'Download'),
-      make('p', { class: 'row' }, 'The text:', this.load),
+    return element('details', { class: 'panel', id: 'download', toggle: open },
+      element('summary', {}, 'Download'),
+      element('p', { class: 'row' }, 'The text:', this.load),
       pictures,
     );
   }
 
-  /** Opens the collection that was edited last in this window, or a new one, with this generation at its end. */
+  /**
+   * Opens the collection that was edited last in this window, with this generation at its end; or a new one, if that is
+   * full.
+   */
   #collect() {
     const { title, items } = readCollection(draft(COLLECTION)?.slice('/l/'.length) ?? '');
-    const address = collectionAddress({ title, items: [...items, { number: this.number, at: this.at, caption: '' }] });
+    const item = { number: this.number, at: this.at, caption: '' };
+    const more = collectionAddress({ title, items: [...items, item] });
+    const isFull = items.length >= MOST_ITEMS || more.length > LONGEST_ADDRESS;
+    const address = isFull ? collectionAddress({ title: '', items: [item] }) : more;
     keepDraft(COLLECTION, address);
     go(address);
   }
 
   /** Asks for another deposit to compare with. */
   #compareForm() {
-    const other = make('input', { id: 'compare-with', type: 'number', min: 1, required: true, inputmode: 'numeric' });
+    const id = 'compare-with';
+    const other = element('input', { id, type: 'number', min: 1, required: true, inputmode: 'numeric' });
     const submit = (event) => {
       event.preventDefault();
       go(`/compare?one=${depositAddress(this.number, this.at).slice(3)}&other=${Math.trunc(Number(other.value))}`);
     };
-    return make('form', { class: 'inline', submit },
-      make('label', { for: other.id }, 'Compare with no.'),
+    return element('form', { class: 'inline', submit },
+      element('label', { for: other.id }, 'Compare with no.'),
       other,
-      make('button', { id: 'compare' }, 'Compare'),
+      element('button', { id: 'compare' }, 'Compare'),
     );
   }
 
@@ -177,16 +184,16 @@ export class Share {
     // Conway's Life forums play what is between these marks.
     const forum = () => `[viewer]\n${copied()}[/viewer]\n[url]${this.url}[/url]\n`;
     const { say } = this.page;
-    return make('section', { class: 'share' },
-      make('h2', {}, 'Share'),
-      make('p', {}, this.address),
-      make('div', { class: 'row' },
+    return element('section', { class: 'share' },
+      element('h2', {}, 'Share'),
+      element('p', {}, this.address),
+      element('div', { class: 'row' },
         copyButton('Copy the address', () => this.url, say),
         copyButton('Copy as RLE', copied, say),
         copyButton('Copy for the forum', forum, say),
-        make('button', { type: 'button', id: 'edit', click: () => this.#edit() }, 'Edit'),
-        make('button', { type: 'button', click: () => print() }, 'Print'),
-        make('button', { type: 'button', id: 'collect', click: () => this.#collect() }, 'Add to a collection'),
+        element('button', { type: 'button', id: 'edit', click: () => this.#edit() }, 'Edit'),
+        element('button', { type: 'button', click: () => print() }, 'Print'),
+        element('button', { type: 'button', id: 'collect', click: () => this.#collect() }, 'Add to a collection'),
         this.#compareForm(),
       ),
       this.#downloads(),

@@ -1,7 +1,7 @@
 // A file as a member gives it: what the page reads of it, what it changes so that the archive takes it, and what it
 // says about that.
 
-import { make } from '../shared/dom.js';
+import { element } from '../shared/dom.js';
 import { insideMarks, isOtherRule, readOld, readOther } from './formats.js';
 import { MOST_COMMENTS } from '../shared/limits.js';
 import { Refused } from '../requests/refusals.js';
@@ -150,7 +150,7 @@ export const refusedBy = (fault) => Object.assign(
 
 /** A button that leaves out the comments beyond those that the archive takes. @param {() => void} act */
 export const cutButton = (act) => (
-  make('button', { type: 'button', class: 'cut', click: act }, `Send the first ${MOST_COMMENTS} comments`)
+  element('button', { type: 'button', class: 'cut', click: act }, `Send the first ${MOST_COMMENTS} comments`)
 );
 
 /**
@@ -161,6 +161,6 @@ export const cutButton = (act) => (
  * @param {(checked: boolean) => void} act
  */
 export function oldChoice(id, checked, label, act) {
-  const box = make('input', { id, type: 'checkbox', checked, change: () => act(box.checked) });
-  return make('p', { class: 'check' }, box, make('label', { for: id }, ` ${label}`));
+  const box = element('input', { id, type: 'checkbox', checked, change: () => act(box.checked) });
+  return element('p', { class: 'check' }, box, element('label', { for: id }, ` ${label}`));
 }

@@ -30,17 +30,17 @@ export class Ages {
   /** The ages that were computed last, and their generation. */
   #last = null;
 
-  /** `made(at)` returns a generation that the page computes; `told` gets the ages of the one shown, or null. */
-  constructor(made, told) {
+  /** `made(at)` returns a generation that the page computes; `listener` gets the ages of the one shown, or null. */
+  constructor(made, listener) {
     this.made = made;
-    this.told = told;
+    this.listener = listener;
   }
 
   /** Turns ages on or off, and returns once they are shown. */
   async turn(isOn) {
     this.isOn = isOn;
     if (isOn) await this.show(this.#wanted);
-    else this.told(null);
+    else this.listener(null);
   }
 
   /** Computes the ages of a generation, and reports them if it is still shown. */
@@ -49,7 +49,7 @@ export class Ages {
     if (!this.isOn) return;
     try {
       const found = await this.#find(at);
-      if (this.isOn && this.#wanted === at) this.told(found);
+      if (this.isOn && this.#wanted === at) this.listener(found);
     } catch {
       // If the page computes no generations, cells have no age.
     }

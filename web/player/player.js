@@ -40,15 +40,15 @@ export class Player {
   #isDoubted = false;
 
   /**
-   * Calls the functions of `told`. `shown(at, record, bytes, place)` is called for each generation that is shown, and
-   * returns its position; `place` is null if the position isn't known, and `bytes` if the page computed the generation.
-   * `changed()` is called when playing begins and ends, `failed(error)` if a generation did not arrive,
+   * Calls the functions of `listener`. `shown(at, record, bytes, place)` is called for each generation that is shown,
+   * and returns its position; `place` is null if the position isn't known, and `bytes` if the page computed the
+   * generation. `changed()` is called when playing begins and ends, `failed(error)` if a generation did not arrive,
    * `compared(at, isSame)` after a comparison, `ended()` at the last generation.
    */
-  constructor(deposit, signal, told) {
+  constructor(deposit, signal, listener) {
     this.deposit = deposit;
     this.signal = signal;
-    this.told = told;
+    this.listener = listener;
     signal.addEventListener('abort', () => this.#stop());
   }
 
@@ -113,13 +113,13 @@ export class Player {
       if (place === null) this.#places.clear();
       this.#compare(at, record.pattern);
       this.at = at;
-      this.#places.set(at, this.told.shown(at, record, bytes, place));
+      this.#places.set(at, this.listener.shown(at, record, bytes, place));
       this.#ahead();
       return true;
     } catch (error) {
       if (!this.signal.aborted) {
         this.pause();
-        this.told.failed(error);
+        this.listener.failed(error);
       }
       return false;
     }
@@ -203,7 +203,7 @@ export class Player {
     if (!made) return;
     const good = isSame(made, own);
     this.#isDoubted ||= !good;
-    this.told.compared(at, good);
+    this.listener.compared(at, good);
     if (!good) this.#maker.end();
   }
 
@@ -222,7 +222,7 @@ export class Player {
       const place = this.#places.get(from);
       this.at = at;
       this.#shownMade = { at, pattern };
-      const put = this.told.shown(
+      const put = this.listener.shown(
         at,
         { pattern },
         null,
@@ -245,7 +245,7 @@ export class Player {
     try {
       const { record } = await this.#fetch(at);
       const good = isSame(made, record.pattern);
-      this.told.compared(at, good);
+      this.listener.compared(at, good);
       if (good) return;
       this.#isDoubted = true;
       this.#maker.end();
@@ -273,7 +273,7 @@ export class Player {
     this.pause();
     const wanted = Math.max(Math.trunc(at) || 0, 0);
     const isShown = await this.show(Math.min(wanted, GENERATION_LIMIT));
-    if (isShown && wanted > GENERATION_LIMIT) this.told.ended();
+    if (isShown && wanted > GENERATION_LIMIT) this.listener.ended();
     return isShown;
   }
 
@@ -285,12 +285,12 @@ export class Player {
   play(direction) {
     this.#stop();
     if (direction > 0 && this.at >= GENERATION_LIMIT && !(this.isLoop && this.period)) {
-      this.told.ended();
+      this.listener.ended();
       return;
     }
     this.direction = direction;
     this.until = direction > 0 ? GENERATION_LIMIT : 0;
-    this.told.changed();
+    this.listener.changed();
     this.#next(performance.now());
   }
 
@@ -306,7 +306,7 @@ export class Player {
     const at = this.#following();
     if (at === null) {
       this.pause();
-      if (this.at >= GENERATION_LIMIT) this.told.ended();
+      if (this.at >= GENERATION_LIMIT) this.listener.ended();
       return;
     }
     const done = await this.#showMade(at);
@@ -325,7 +325,7 @@ export class Player {
     const played = this.direction !== 0;
     this.#stop();
     if (!played) return;
-    this.told.changed();
+    this.listener.changed();
     // When it stops, it shows the archive's own answer.
     if (this.#shownMade?.at === this.at) this.show(this.at);
   }

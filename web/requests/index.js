@@ -1,7 +1,7 @@
 // The search index (docs/FORMATS.md, The search index). It may be 15 minutes old, and nothing about it is proved. If
 // the club has no index, the pages work without it.
 
-import { make } from '../shared/dom.js';
+import { element } from '../shared/dom.js';
 import { Refused } from './refusals.js';
 
 const PLACE = '/index/';
@@ -39,7 +39,7 @@ export function indexHead() {
 
 /** The note about the index, shown wherever it is used. */
 export function indexNote(head) {
-  return make('p', { class: 'hint' },
+  return element('p', { class: 'hint' },
     `From the search index of ${head.made.slice(0, 10)}, ${head.made.slice(11, 16)} UTC. `
       + 'It may be 15 minutes old, and nothing about it is proved. '
       + 'The pages that it links to show the archive’s own answers.',

@@ -4,17 +4,17 @@ import { LONGEST_MEMBER } from './limits.js';
 import { nameOf, Refused, sentenceOf } from '../requests/refusals.js';
 
 /** An element with attributes (a function is a listener, `true` an attribute without a value) and children. */
-export function make(tag, attributes = {}, ...inside) {
-  const element = document.createElement(tag);
+export function element(tag, attributes = {}, ...inside) {
+  const made = document.createElement(tag);
   for (const [name, value] of Object.entries(attributes)) {
     if (typeof value === 'function') {
-      element.addEventListener(name, value);
+      made.addEventListener(name, value);
     } else if (value !== false && value !== null && value !== undefined) {
-      element.setAttribute(name, value === true ? '' : value);
+      made.setAttribute(name, value === true ? '' : value);
     }
   }
-  element.append(...inside.flat().filter((part) => part !== null && part !== undefined && part !== false));
-  return element;
+  made.append(...inside.flat().filter((part) => part !== null && part !== undefined && part !== false));
+  return made;
 }
 
 const ICONS = {
@@ -30,9 +30,9 @@ const ICONS = {
 /** An icon for a button, which also has a name; its path is one of those above, or `path`. */
 export function icon(name, path = ICONS[name]) {
   const named = (tag, attributes) => {
-    const element = document.createElementNS('http://www.w3.org/2000/svg', tag);
-    for (const [key, value] of Object.entries(attributes)) element.setAttribute(key, value);
-    return element;
+    const made = document.createElementNS('http://www.w3.org/2000/svg', tag);
+    for (const [key, value] of Object.entries(attributes)) made.setAttribute(key, value);
+    return made;
   };
   const drawing = named('svg', { viewBox: '0 0 16 16', class: `icon ${name}`, 'aria-hidden': 'true' });
   drawing.append(named('path', { d: path }));
@@ -47,18 +47,18 @@ export const plural = (number, one, more = `${one}s`) => `${withCommas(number)} 
 
 /** A field of a form with its label. */
 export function field(label, input, hint) {
-  const said = hint ? make('small', { id: `${input.id}-hint` }, hint) : null;
+  const said = hint ? element('small', { id: `${input.id}-hint` }, hint) : null;
   if (said) input.setAttribute('aria-describedby', said.id);
-  return make('p', { class: 'field' }, make('label', { for: input.id }, label), input, said);
+  return element('p', { class: 'field' }, element('label', { for: input.id }, label), input, said);
 }
 
 /** Why something was refused, and what to do; with the line of the file, if it is known. */
 export function refusal(error, more) {
   if (!(error instanceof Refused)) throw error;
-  return make('div', { class: 'refusal', role: 'alert' },
-    make('p', {}, sentenceOf(error)),
-    more ? make('p', {}, more) : null,
-    make('p', { class: 'name' }, make('code', {}, nameOf(error))),
+  return element('div', { class: 'refusal', role: 'alert' },
+    element('p', {}, sentenceOf(error)),
+    more ? element('p', {}, more) : null,
+    element('p', { class: 'name' }, element('code', {}, nameOf(error))),
   );
 }
 
@@ -69,7 +69,7 @@ export function copyButton(label, text, say) {
     try {
       await navigator.clipboard.writeText(value);
     } catch {
-      const room = make('textarea', { class: 'aside', 'aria-hidden': 'true' });
+      const room = element('textarea', { class: 'aside', 'aria-hidden': 'true' });
       room.value = value;
       document.body.append(room);
       room.select();
@@ -78,13 +78,14 @@ export function copyButton(label, text, say) {
     }
     say('Copied.');
   };
-  return make('button', { type: 'button', click: copy }, label);
+  return element('button', { type: 'button', click: copy }, label);
 }
 
 /** A button that tries again, if that may help; otherwise nothing. */
 export function againButton(error, again) {
   const may = error.isRead && ['no-reply', 'unavailable', 'too-many-requests'].includes(error.name);
-  return may ? make('p', {}, make('button', { type: 'button', class: 'again', click: again }, 'Try again')) : null;
+  const button = () => element('button', { type: 'button', class: 'again', click: again }, 'Try again');
+  return may ? element('p', {}, button()) : null;
 }
 
 /** Adds parts to a page once they arrive. A page is complete without the index, so a failure is not reported. */

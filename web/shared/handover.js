@@ -1,6 +1,6 @@
 // What one page passes to another: files to deposit, and a note about the last deposit.
 
-import { make } from './dom.js';
+import { element } from './dom.js';
 
 let files = null;
 let note = null;
@@ -38,5 +38,5 @@ export function keepNote(number, text, typed) {
 export function noteOf(number) {
   const own = note?.number === number ? note : null;
   note = null;
-  return { line: make('p', { class: 'note', role: 'status' }, own?.text ?? ''), typed: own?.typed };
+  return { line: element('p', { class: 'note', role: 'status' }, own?.text ?? ''), typed: own?.typed };
 }

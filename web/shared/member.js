@@ -1,7 +1,7 @@
 // The member under whose name the pages deposit: a field or, if the club checks passwords, the name that logs in. A
 // page learns of passwords from a refusal, or from a deposit that is another member's than the one that was typed.
 
-import { field, isMember, make } from './dom.js';
+import { element, field, isMember } from './dom.js';
 import { keepSetting, setting } from './storage.js';
 import { LONGEST_MEMBER } from './limits.js';
 
@@ -14,11 +14,11 @@ export const rememberMember = (name) => keepSetting('member', name);
 
 /** Says in place of the field whose deposits these will be. */
 function loginPart(login, another) {
-  return make('p', { class: 'login' },
+  return element('p', { class: 'login' },
     'This club checks passwords. What you send is stored for the member that you log in as',
-    login ? [', last time ', make('strong', {}, login)] : '',
+    login ? [', last time ', element('strong', {}, login)] : '',
     '. ',
-    make('button', { type: 'button', class: 'quiet', click: another }, 'Type a name'),
+    element('button', { type: 'button', class: 'quiet', click: another }, 'Type a name'),
   );
 }
 
@@ -29,7 +29,7 @@ function loginPart(login, another) {
  */
 export function memberPart(id, hint) {
   const lower = () => { if (input.value !== input.value.toLowerCase()) input.value = input.value.toLowerCase(); };
-  const input = make('input', {
+  const input = element('input', {
     id,
     name: 'member',
     required: true,
@@ -40,7 +40,7 @@ export function memberPart(id, hint) {
     input: lower,
   });
   const [kept, login] = [setting('member') ?? '', setting(LOGIN)];
-  const part = make('div');
+  const part = element('div');
   let isTyped = login === null;
   const type = () => {
     isTyped = true;

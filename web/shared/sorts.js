@@ -1,6 +1,6 @@
 // Tables that a press on a column's head sorts.
 
-import { make } from './dom.js';
+import { element } from './dom.js';
 import { entryState, keepEntryState } from './storage.js';
 
 /**
@@ -56,11 +56,11 @@ export class Heads {
         this.mark({ sort: id, isUp: this.order.sort === id ? !this.order.isUp : Boolean(isUp) });
         changed(this.order);
       };
-      return make('th', {
+      return element('th', {
         scope: 'col',
         class: [isNumber ? 'number' : '', more ? 'more' : ''].join(' ').trim(),
         'data-column': id,
-      }, make('button', { type: 'button', class: 'sort', click: press }, head));
+      }, element('button', { type: 'button', class: 'sort', click: press }, head));
     });
     this.mark(order);
   }

@@ -210,6 +210,8 @@ def kills_an_upgrade(debian: Debian) -> None:
         again.returncode == 0 and version == f"{LATER} install ok installed," * 2,
     )
     check("all is there", until(lambda: debian.is_served()) and debian.has_all())
+    # The folder of a copy that was killed goes a day later.
+    debian.shell(f"rm -rf {COPIES}/.life-copy-*")
     lies_about(debian, "a killed upgrade")
     debian.shell(f"rm -f {COPIES}/before-*.db; dpkg --install {' '.join(packages_of(VERSION))}")
 

@@ -47,7 +47,8 @@ export function readTable(text) {
   if (named) lines.splice(HEADINGS.length, 1);
   const ends = ENDS.map((form, at) => form.exec(lines.at(at - 4) ?? ''));
   const rows = lines.slice(HEADINGS.length + 1, -4).map((line) => ROW.exec(line));
-  if ([...values, ...ends, ...rows].includes(null) || lines.at(-1) !== '' || lines[HEADINGS.length] !== HEAD) return null;
+  if ([...values, ...ends, ...rows].includes(null)) return null;
+  if (lines.at(-1) !== '' || lines[HEADINGS.length] !== HEAD) return null;
   const [root, rule, generation, limit] = values;
   const [unresolved, clusters, soups, first] = [ends[0][1], ends[1][1], ends[2][1], ends[2][2]].map(Number);
   const objects = rows.map(([, code, count, seen]) => ({ code, count: Number(count), first: Number(seen) }));
@@ -224,7 +225,7 @@ export async function haulPage(page) {
     accept: '.csv,text/csv',
     change: () => take([...input.files]),
   });
-  page.taken = take;
+  page.acceptFiles = take;
   page.root.append(
     element('h1', { tabindex: -1 }, 'A haul'),
     field(

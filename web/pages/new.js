@@ -80,14 +80,14 @@ class Content {
 
   /** Sets the bytes. */
   take(bytes, shown) {
-    this.given = bytes;
+    this.input = bytes;
     this.choices = { asOld: true, isCut: false };
     this.#read(shown);
   }
 
   /** Puts the cells that were drawn into the text. */
   #draw(pattern) {
-    this.given = withPattern(this.#good, pattern);
+    this.input = withPattern(this.#good, pattern);
     this.#read(true, false);
     keepDraft('pattern', this.text.value || null);
   }
@@ -98,13 +98,13 @@ class Content {
    * @param {boolean} isNew whether the cells are not those that the editor shows
    */
   #read(shown, isNew = true) {
-    this.read = this.given.length > 0 ? readGiven(this.given, this.choices) : null;
-    this.own = this.read?.bytes ?? this.given;
+    this.read = this.input.length > 0 ? readGiven(this.input, this.choices) : null;
+    this.own = this.read?.bytes ?? this.input;
     this.record = this.read?.record ?? null;
     this.fault = this.read?.fault ?? null;
     if (shown) {
       this.text.value = new TextDecoder(this.read?.isOld && this.choices.asOld ? 'windows-1252' : 'utf-8')
-        .decode(this.given);
+        .decode(this.input);
     }
     if (this.record || !this.read) this.#good = this.record && { bytes: this.own, record: this.record };
     if (isNew && !this.fault) this.editor.show(this.record?.pattern ?? NO_PATTERN);
@@ -378,14 +378,14 @@ export function depositForm(page) {
   const { part, submit } = singlePart(content, token, page);
   const form = element('form', { class: 'deposit', submit },
     content.preview,
-    element('div', {}, dropPart(content, (files) => page.taken(files), page), part),
+    element('div', {}, dropPart(content, (files) => page.acceptFiles(files), page), part),
   );
   page.root.append(element('h1', { tabindex: -1 }, 'New deposit'), form);
-  page.taken = takerOf(form, part, content, page);
+  page.acceptFiles = takerOf(form, part, content, page);
   const typed = draft('pattern');
   const texts = content.drafts;
   const passed = passedFiles();
   content.take(passed || !typed ? new Uint8Array() : new TextEncoder().encode(typed), true);
-  if (passed) page.taken(passed);
+  if (passed) page.acceptFiles(passed);
   else if (typed) content.restore(texts);
 }

@@ -242,8 +242,8 @@ const HAUL = '# root ';
 async function takeFiles(files) {
   try {
     const isHaul = await files[0].slice(0, HAUL.length).text() === HAUL;
-    if (current.taken && (!isHaul || location.pathname === '/haul')) {
-      current.taken(files);
+    if (current.acceptFiles && (!isHaul || location.pathname === '/haul')) {
+      current.acceptFiles(files);
       return;
     }
     passFiles(files);

@@ -142,13 +142,13 @@ export function saveParts(shown, page) {
     'aria-label': 'Generations of the animation',
   });
   count.value = 60;
-  const said = element('div');
+  const message = element('div');
   const nameOf = (ending) => shown.fileName.replace(/rle$/, ending);
   const button = (id, label, act) => element('button', {
     type: 'button',
     id,
     click: () => act().catch((error) => {
-      if (!page.signal.aborted) said.replaceChildren(refusal(error));
+      if (!page.signal.aborted) message.replaceChildren(refusal(error));
     }),
   }, label);
   const svg = button('save-svg', 'SVG', async () => {
@@ -170,7 +170,7 @@ export function saveParts(shown, page) {
     const signal = /** @type {any} */ (AbortSignal).any([page.signal, stop.signal]);
     const line = element('span');
     const came = (many) => line.replaceChildren(`Requesting the generations: ${many} of ${asked}…`);
-    said.replaceChildren(element('p', { class: 'row' },
+    message.replaceChildren(element('p', { class: 'row' },
       line,
       element('button', { type: 'button', id: 'stop-saving', click: () => stop.abort() }, 'Stop'),
     ));
@@ -181,14 +181,14 @@ export function saveParts(shown, page) {
       const origin = `Generations ${at} to ${at + frames.length - 1} of deposit ${number}, ${url}`;
       const content = await form(frames, { title: first.name, origin }, signal);
       const saveIt = () => {
-        said.replaceChildren();
+        message.replaceChildren();
         save(content, `deposit-${number}-from-${at}.${ending}`, type);
       };
-      if (ending === 'svg' && content.length > LARGE) said.replaceChildren(...sizeQuestion(content.length, saveIt));
+      if (ending === 'svg' && content.length > LARGE) message.replaceChildren(...sizeQuestion(content.length, saveIt));
       else saveIt();
     } catch (error) {
       if (!stop.signal.aborted) throw error;
-      said.replaceChildren('Stopped.');
+      message.replaceChildren('Stopped.');
     } finally {
       animation.disabled = moving.disabled = false;
     }
@@ -200,6 +200,6 @@ export function saveParts(shown, page) {
   return [
     element('p', { class: 'row' }, 'A picture:', png, svg),
     element('p', { class: 'row' }, 'An animation of', count, 'generations from here on:', moving, animation),
-    said,
+    message,
   ];
 }

@@ -92,8 +92,8 @@ export const headChunk = ({ width, height, size }) => (
  * @param {Uint8Array[]} pictures
  */
 export function fileWith(head, texts, pictures) {
-  const said = Object.entries(texts).filter(([, text]) => text).map(([name, text]) => textChunk(name, text));
-  return new Blob([SIGNATURE, head, ...said, ...pictures, chunk('IEND')], { type: 'image/png' });
+  const chunks = Object.entries(texts).filter(([, text]) => text).map(([name, text]) => textChunk(name, text));
+  return new Blob([SIGNATURE, head, ...chunks, ...pictures, chunk('IEND')], { type: 'image/png' });
 }
 
 /** A pattern as a file. */

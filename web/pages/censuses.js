@@ -101,7 +101,7 @@ export async function occurrences(page, rule, code) {
   const found = await censusesOfObject(rule, code, page.signal);
   const rows = (await Promise.all(found.map(({ id }) => indexedCensus(id)))).filter(Boolean);
   const deposits = new Set(rows.map((row) => row.deposit));
-  const said = rows.length === 0
+  const message = rows.length === 0
     ? 'No census in the index contains it.'
     : `In ${plural(rows.length, 'census', 'censuses')} of ${plural(deposits.size, 'deposit')}, the newest first.`;
   const table = rows.length === 0 ? [] : await censusTable(
@@ -112,7 +112,7 @@ export async function occurrences(page, rule, code) {
   );
   return [element('section', { id: 'occurrences' },
     element('h2', {}, 'Where it occurs'),
-    element('p', {}, said),
+    element('p', {}, message),
     ...table,
     indexNote(head),
   )];

@@ -30,7 +30,7 @@ class Collection {
   heading = element('h1', { tabindex: -1, dir: 'auto' });
   count = element('p', { class: 'count' });
   list = element('ol', { class: 'cards collection' });
-  said = element('div', { 'aria-live': 'polite' });
+  message = element('div', { 'aria-live': 'polite' });
   screen = element('div');
 
   /** @param {string} list @param {any} page */
@@ -79,13 +79,13 @@ class Collection {
     const [title, entries] = [this.title, [...this.entries]];
     const captions = entries.map(({ item }) => item.caption);
     act();
-    this.said.replaceChildren();
+    this.message.replaceChildren();
     const isTooLong = this.address.length > LONGEST_ADDRESS;
     if (isTooLong || this.entries.length > MOST_ITEMS) {
       this.title = title;
       this.entries.splice(0, Infinity, ...entries);
       for (const [at, { item }] of entries.entries()) item.caption = captions[at];
-      this.said.replaceChildren(refusal(refused(isTooLong
+      this.message.replaceChildren(refusal(refused(isTooLong
         ? `The address would have more than ${withCommas(LONGEST_ADDRESS)} characters. Shorten captions, or make two `
           + 'collections.'
         : `A collection has at most ${withCommas(MOST_ITEMS)} deposits. Make two collections.`)));
@@ -146,11 +146,11 @@ class Collection {
     const added = element('input', { id: 'added', autocomplete: 'off', placeholder: '7, 7 at 30, or an address' });
     const submit = async (event) => {
       event.preventDefault();
-      this.said.replaceChildren();
+      this.message.replaceChildren();
       try {
         if (added.value.trim() && await this.#add(added.value)) added.value = '';
       } catch (error) {
-        if (!this.page.signal.aborted) this.said.replaceChildren(refusal(error));
+        if (!this.page.signal.aborted) this.message.replaceChildren(refusal(error));
       }
     };
     return element('form', { class: 'editing', hidden: true, submit },
@@ -208,17 +208,17 @@ class Collection {
     this.page.signal.addEventListener('abort', ended);
     const line = element('span');
     const came = (count) => line.replaceChildren(`Requesting the texts: ${count} of ${this.entries.length}…`);
-    this.said.replaceChildren(element('p', { class: 'row' },
+    this.message.replaceChildren(element('p', { class: 'row' },
       line,
       element('button', { type: 'button', id: 'stop-packing', click: ended }, 'Stop'),
     ));
     try {
       save(await packed([...this.entries], this, came, signal), 'collection.zip', 'application/zip');
-      this.said.replaceChildren();
+      this.message.replaceChildren();
     } catch (error) {
       if (this.page.signal.aborted) return;
       const isLarge = error instanceof RangeError;
-      this.said.replaceChildren(signal.aborted
+      this.message.replaceChildren(signal.aborted
         ? 'Stopped.'
         : refusal(isLarge ? refused('These texts are too large for one file. Make two collections.') : error));
     }
@@ -232,7 +232,7 @@ class Collection {
       ? element('p', { class: 'refusal', role: 'alert' },
         `${plural(this.unread, 'part')} of this address can’t be read. Perhaps it was cut: compare it with its source.`)
       : null;
-    return [unread, this.screen, share, this.said, this.form, this.list].filter(Boolean);
+    return [unread, this.screen, share, this.message, this.form, this.list].filter(Boolean);
   }
 }
 

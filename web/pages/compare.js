@@ -92,7 +92,7 @@ class Clock {
     this.sides = sides;
     this.page = page;
     this.last = GENERATION_LIMIT - Math.max(...sides.map(({ from }) => from));
-    this.said = element('p', { id: 'verdict', role: 'status' });
+    this.message = element('p', { id: 'verdict', role: 'status' });
     this.play = element('button', { type: 'button', class: 'main', id: 'play', click: () => this.toggle() }, 'Play');
     const button = (id, label, time) => (
       element('button', { type: 'button', id, click: () => this.go(time()) }, label)
@@ -120,9 +120,9 @@ class Clock {
       if (this.#turn !== turn) return;
       this.time = time;
       this.number.replaceChildren(withCommas(time));
-      if (isResting) this.said.replaceChildren(verdict(one, other, this.sides.map(({ rule }) => rule)));
+      if (isResting) this.message.replaceChildren(verdict(one, other, this.sides.map(({ rule }) => rule)));
     } catch (error) {
-      if (!this.page.signal.aborted) this.said.replaceChildren(refusal(error));
+      if (!this.page.signal.aborted) this.message.replaceChildren(refusal(error));
     }
   }
 
@@ -133,7 +133,7 @@ class Clock {
     }
     const turn = this.#turn = {};
     this.play.replaceChildren('Pause');
-    this.said.replaceChildren('Computed by your browser while it plays.');
+    this.message.replaceChildren('Computed by your browser while it plays.');
     while (this.#turn === turn && this.time < this.last && !this.page.signal.aborted) {
       const next = new Promise((resolve) => setTimeout(resolve, SHOWN));
       await this.#show(this.time + 1, false, turn);
@@ -163,7 +163,7 @@ export async function comparePage(page) {
   const sides = await Promise.all(['one', 'other'].map((name) => sideOf(words.get(name), page)));
   const clock = new Clock(sides, page);
   page.root.append(
-    clock.said,
+    clock.message,
     element('div', { class: 'compared' }, sides.map(({ root }) => root)),
     clock.bar,
   );

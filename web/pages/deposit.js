@@ -56,7 +56,7 @@ function kindText(found, limit) {
 
 /** The kind of the deposit, with a form for another limit. */
 function kindParts(number, record, page, periodic) {
-  const said = element('span', {}, '…');
+  const message = element('span', {}, '…');
   const code = element('span', {}, '…');
   const limit = element('input', {
     id: 'limit',
@@ -72,7 +72,7 @@ function kindParts(number, record, page, periodic) {
     const within = Math.trunc(Number(limit.value));
     try {
       const found = await kind(number, within, page.signal);
-      said.replaceChildren(kindText(found, within));
+      message.replaceChildren(kindText(found, within));
       const isPeriodic = !['empty', 'unresolved'].includes(found.kind);
       periodic(isPeriodic ? found.period ?? 1 : null);
       const rule = ruleText(record.rule);
@@ -86,7 +86,7 @@ function kindParts(number, record, page, periodic) {
         : [isPeriodic ? 'none: no phase fits into 40 by 40 cells' : 'none']));
     } catch (error) {
       if (page.signal.aborted) return;
-      said.replaceChildren(refusal(error));
+      message.replaceChildren(refusal(error));
       code.replaceChildren('');
     }
   };
@@ -96,7 +96,7 @@ function kindParts(number, record, page, periodic) {
     limit,
     element('button', {}, 'Show'),
   );
-  return [['Kind', [said, form]], ['Code', [code]]];
+  return [['Kind', [message, form]], ['Code', [code]]];
 }
 
 /**
@@ -114,22 +114,22 @@ function censusPart(shown, page) {
     inputmode: 'numeric',
   });
   limit.value = USUAL_LIMIT;
-  const said = element('div');
+  const message = element('div');
   const send = element('button', { id: 'count' }, 'Count the objects');
   const ask = async (event) => {
     event.preventDefault();
-    said.replaceChildren();
+    message.replaceChildren();
     send.disabled = true;
     try {
       if (!isMember(name.value)) throw new Refused('bad-member');
       rememberMember(name.value);
       page.say('Counting…');
       const waiting = (time) => {
-        said.replaceChildren(element('p', { class: 'waiting' },
+        message.replaceChildren(element('p', { class: 'waiting' },
           'Many censuses come from your address, so this one waits. '
             + `It is sent again every ${plural(Math.ceil(time / 1000), 'second')}…`,
         ));
-        page.say(said.textContent);
+        page.say(message.textContent);
       };
       const [at, within] = [shown.at, Math.trunc(Number(limit.value))];
       const number = await sendCensus(
@@ -143,7 +143,7 @@ function censusPart(shown, page) {
       );
       go(censusAddress(number));
     } catch (error) {
-      if (!page.signal.aborted) said.replaceChildren(refusal(error));
+      if (!page.signal.aborted) message.replaceChildren(refusal(error));
     } finally {
       send.disabled = false;
     }
@@ -159,7 +159,7 @@ function censusPart(shown, page) {
       field('Longest period', limit, '60 finds all common objects. A larger one can take long on a large field.'),
       send,
     ),
-    said,
+    message,
   );
 }
 
@@ -170,8 +170,8 @@ function heading(number, record, rows) {
   rows.then(({ row }) => {
     if (!row) return;
     by.append('Deposited by ', element('a', { href: memberAddress(row.member) }, row.member), '.');
-    const said = typed === undefined ? null : learnMember(typed, row.member);
-    if (said) line.append(` ${said}`);
+    const message = typed === undefined ? null : learnMember(typed, row.member);
+    if (message) line.append(` ${message}`);
   }, () => {});
   return element('div', { class: 'title' },
     element('h1', { tabindex: -1 },
@@ -198,7 +198,7 @@ function neighbours(number, rows) {
 class Stage {
   canvas = element('canvas', { class: 'large', role: 'img', tabindex: 0 });
   facts = { population: element('span'), box: element('span') };
-  said = element('div');
+  message = element('div');
   doubt = element('div');
   end = element('p', { class: 'over end', role: 'status' });
   hint = element('p', { class: 'over', hidden: true }, 'Click the pattern to zoom with the wheel, or hold Ctrl.');
@@ -246,7 +246,7 @@ class Stage {
     this.source.replaceChildren(bytes === null
       ? 'Computed by your browser, and compared with the archive later.'
       : 'The archive’s own answer.');
-    if (bytes !== null) this.said.replaceChildren();
+    if (bytes !== null) this.message.replaceChildren();
     this.#settle();
     return put;
   }
@@ -288,7 +288,7 @@ class Stage {
   }
 
   failed(error) {
-    this.said.replaceChildren(...[
+    this.message.replaceChildren(...[
       refusal(error),
       againButton(error, () => this.player.go(this.player.wanted)),
     ].filter(Boolean));
@@ -306,7 +306,7 @@ class Stage {
       this.badge,
       element('p', {}, this.source, ' ', this.equal, ' ', element('a', { href: '/about#proof' }, 'What is proved?')),
     );
-    return [source, this.doubt, this.said, this.plot.figure];
+    return [source, this.doubt, this.message, this.plot.figure];
   }
 }
 
@@ -368,5 +368,5 @@ export async function depositPage(page, given, at = '0') {
   player.preload();
   countLater(stage, record, page);
   addLater(page, censuses, censusesSection(page, number));
-  if (Number(at) > GENERATION_LIMIT) stage.said.replaceChildren(refusal(new Refused('out-of-limit')));
+  if (Number(at) > GENERATION_LIMIT) stage.message.replaceChildren(refusal(new Refused('out-of-limit')));
 }

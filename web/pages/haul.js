@@ -37,7 +37,7 @@ const ENDS = [
 /** The content of a table; null if the text is not a table or its counts do not add up. */
 export function readTable(text) {
   const lines = text.split('\n');
-  const said = HEADINGS.map((name, at) => (
+  const values = HEADINGS.map((name, at) => (
     lines[at]?.startsWith(`# ${name} `) ? lines[at].slice(name.length + 3) : null
   ));
   // A table with symmetry C1 does not name it.
@@ -47,8 +47,9 @@ export function readTable(text) {
   if (named) lines.splice(HEADINGS.length, 1);
   const ends = ENDS.map((form, at) => form.exec(lines.at(at - 4) ?? ''));
   const rows = lines.slice(HEADINGS.length + 1, -4).map((line) => ROW.exec(line));
-  if ([...said, ...ends, ...rows].includes(null) || lines.at(-1) !== '' || lines[HEADINGS.length] !== HEAD) return null;
-  const [root, rule, generation, limit] = said;
+  if ([...values, ...ends, ...rows].includes(null)) return null;
+  if (lines.at(-1) !== '' || lines[HEADINGS.length] !== HEAD) return null;
+  const [root, rule, generation, limit] = values;
   const [unresolved, clusters, soups, first] = [ends[0][1], ends[1][1], ends[2][1], ends[2][2]].map(Number);
   const objects = rows.map(([, code, count, seen]) => ({ code, count: Number(count), first: Number(seen) }));
   if (objects.reduce((sum, { count }) => sum + count, unresolved) !== clusters) return null;
@@ -224,7 +225,7 @@ export async function haulPage(page) {
     accept: '.csv,text/csv',
     change: () => take([...input.files]),
   });
-  page.taken = take;
+  page.acceptFiles = take;
   page.root.append(
     element('h1', { tabindex: -1 }, 'A haul'),
     field(

@@ -167,19 +167,19 @@ async function newer(after, signal) {
 }
 
 /** All deposits of a member, the newest first: from the index, and newer ones from the archive's lists. */
-async function indexedOf(head, member, said, signal) {
+async function indexedOf(head, member, message, signal) {
   const since = await newer(head.counts.deposits, signal);
   const all = await allDeposits((number, of) => {
-    if (number < of) said.replaceChildren(`Reading the index: ${withCommas(number)} of ${withCommas(of)} blocks…`);
+    if (number < of) message.replaceChildren(`Reading the index: ${withCommas(number)} of ${withCommas(of)} blocks…`);
   }, signal);
   return [...since.reverse(), ...all].filter((row) => row.member === member);
 }
 
 /** The same without an index: searches all lists. */
-async function listedOf(member, said, signal) {
+async function listedOf(member, message, signal) {
   const found = [];
   for (let before = await lastDeposit(signal) + 1; before > 1; before -= TOGETHER * LONGEST_LIST) {
-    said.replaceChildren(
+    message.replaceChildren(
       `Searching the lists: ${plural(found.length, 'deposit')} so far, ${withCommas(before - 1)} left to search…`,
     );
     const begins = Array.from({ length: TOGETHER }, (_, at) => before - 1 - (at + 1) * LONGEST_LIST)
@@ -196,12 +196,12 @@ async function listedOf(member, said, signal) {
 /** The deposits of a member, the newest first; with a number, those before it. */
 export async function depositsOf(page, member, before = Infinity) {
   page.title(`Deposits of ${member}`);
-  const said = element('p', { class: 'count' }, 'Looking…');
-  page.root.append(element('h1', { tabindex: -1 }, `Deposits of ${member}`), said);
+  const message = element('p', { class: 'count' }, 'Looking…');
+  page.root.append(element('h1', { tabindex: -1 }, `Deposits of ${member}`), message);
   const head = await indexHead();
-  const all = head ? await indexedOf(head, member, said, page.signal) : await listedOf(member, said, page.signal);
+  const all = head ? await indexedOf(head, member, message, page.signal) : await listedOf(member, message, page.signal);
   const rows = all.filter((row) => row.id < Number(before));
-  said.replaceChildren(rows.length === 0 ? 'None.' : plural(rows.length, 'deposit'));
+  message.replaceChildren(rows.length === 0 ? 'None.' : plural(rows.length, 'deposit'));
   page.root.append(...shownRows(page, rows), ...(head ? [indexNote(head)] : []));
   page.say(`${plural(rows.length, 'deposit')} of ${member}.`);
 }

@@ -252,7 +252,7 @@ export class Table {
     );
     this.bar = element('progress', { hidden: true, 'aria-label': 'Files done' });
     this.count = element('p', { class: 'count', role: 'status' });
-    this.said = element('div');
+    this.message = element('div');
     this.seen = element('p');
     this.instead = element('button', {
       type: 'button',
@@ -276,7 +276,7 @@ export class Table {
       this.count,
       this.seen,
       this.form,
-      this.said,
+      this.message,
       element('p', {}, this.instead),
       this.tables,
     );
@@ -379,7 +379,7 @@ export class Table {
 
   async #submit(event) {
     event.preventDefault();
-    this.said.replaceChildren();
+    this.message.replaceChildren();
     this.send.disabled = true;
     try {
       if (!isMember(this.member.input.value)) throw new Refused('bad-member');
@@ -388,7 +388,7 @@ export class Table {
       await this.#learnOwner();
     } catch (error) {
       if (!this.page.signal.aborted) {
-        this.said.replaceChildren(refusal(error, 'Press the button again to continue: nothing is stored twice.'));
+        this.message.replaceChildren(refusal(error, 'Press the button again to continue: nothing is stored twice.'));
       }
     } finally {
       this.bar.hidden = true;
@@ -403,7 +403,7 @@ export class Table {
     const { row } = last ? await depositRows(last.kept, this.page.signal) : { row: null };
     if (!row) return;
     const text = learnMember(this.member.typed(), row.member);
-    if (text) this.said.replaceChildren(element('p', { class: 'note' }, text));
+    if (text) this.message.replaceChildren(element('p', { class: 'note' }, text));
     this.owner = row.member;
     keepTable(this.rows, this.owner);
   }

@@ -41,9 +41,9 @@ class Content {
     this.page = page;
     this.text = text;
     this.token = token;
-    this.said = element('div', { 'aria-live': 'polite' });
+    this.message = element('div', { 'aria-live': 'polite' });
     this.editor = new Editor(page, (pattern) => this.#draw(pattern));
-    this.preview = element('div', { class: 'preview' }, this.editor.root, this.said);
+    this.preview = element('div', { class: 'preview' }, this.editor.root, this.message);
     this.texts = {
       name: this.#textInput('text-name', 'no name yet'),
       author: this.#textInput('text-author', 'no author yet'),
@@ -80,14 +80,14 @@ class Content {
 
   /** Sets the bytes. */
   take(bytes, shown) {
-    this.given = bytes;
+    this.input = bytes;
     this.choices = { asOld: true, isCut: false };
     this.#read(shown);
   }
 
   /** Puts the cells that were drawn into the text. */
   #draw(pattern) {
-    this.given = withPattern(this.#good, pattern);
+    this.input = withPattern(this.#good, pattern);
     this.#read(true, false);
     keepDraft('pattern', this.text.value || null);
   }
@@ -98,19 +98,19 @@ class Content {
    * @param {boolean} isNew whether the cells are not those that the editor shows
    */
   #read(shown, isNew = true) {
-    this.read = this.given.length > 0 ? readGiven(this.given, this.choices) : null;
-    this.own = this.read?.bytes ?? this.given;
+    this.read = this.input.length > 0 ? readGiven(this.input, this.choices) : null;
+    this.own = this.read?.bytes ?? this.input;
     this.record = this.read?.record ?? null;
     this.fault = this.read?.fault ?? null;
     if (shown) {
       this.text.value = new TextDecoder(this.read?.isOld && this.choices.asOld ? 'windows-1252' : 'utf-8')
-        .decode(this.given);
+        .decode(this.input);
     }
     if (this.record || !this.read) this.#good = this.record && { bytes: this.own, record: this.record };
     if (isNew && !this.fault) this.editor.show(this.record?.pattern ?? NO_PATTERN);
     // A text with a fault has no cells to draw; but what was drawn can still be undone.
     this.editor.root.hidden = isNew && this.fault !== null;
-    this.said.replaceChildren(...this.#seen());
+    this.message.replaceChildren(...this.#seen());
     this.#offer(shown && isNew);
     this.#compose();
     this.#findSame();
@@ -124,7 +124,7 @@ class Content {
     this.#resting = setTimeout(async () => {
       const found = await sameDeposit(record, this.page.signal).catch(() => null);
       if (!found || this.record !== record) return;
-      this.said.append(element('p', { class: 'note', id: 'same' },
+      this.message.append(element('p', { class: 'note', id: 'same' },
         element('a', { href: depositAddress(found.number) }, `Deposit ${withCommas(found.number)}`),
         ` has the same cells${found.turn ? `, ${found.turn}` : ''}.`,
       ));
@@ -170,7 +170,7 @@ class Content {
     this.take(new Uint8Array(), true);
     this.fault = fault;
     this.editor.root.hidden = true;
-    this.said.replaceChildren(this.refused(refusedBy(fault)));
+    this.message.replaceChildren(this.refused(refusedBy(fault)));
   }
 
   get isTooLong() {
@@ -260,19 +260,19 @@ function dropPart(content, take, page) {
 }
 
 /** Sends the content, and opens the new deposit. */
-async function send(content, { input: name, typed }, said, page) {
+async function send(content, { input: name, typed }, message, page) {
   if (!isMember(name.value)) throw new Refused('bad-member');
   if (content.isTooLong) throw new Refused('bad-pattern', 7, TOO_LONG);
   if (!TOKEN.test(content.token.value)) throw new Refused('bad-token');
   rememberMember(name.value);
   const waiting = (error) => {
-    said.replaceChildren(element('p', {}, error.name === 'too-many-requests'
+    message.replaceChildren(element('p', {}, error.name === 'too-many-requests'
       ? 'The archive is busy; trying again…'
       : 'No reply yet; sending it again with the same token…'));
-    page.say(said.textContent);
+    page.say(message.textContent);
   };
   page.say('Sending…');
-  said.replaceChildren(element('p', { class: 'waiting' }, 'Sending…'));
+  message.replaceChildren(element('p', { class: 'waiting' }, 'Sending…'));
   const last = await lastDeposit(page.signal).catch(() => 0);
   const number = await sendDeposit(name.value, content.token.value, content.bytes, waiting, page.signal);
   page.say(`Stored as deposit ${number}.`);
@@ -284,26 +284,26 @@ async function send(content, { input: name, typed }, said, page) {
 /** The fields for one file, and what happens when they are sent. */
 function singlePart(content, token, page) {
   const member = memberPart('member', `Your name here: 1 to ${LONGEST_MEMBER} characters, a to z, 0 to 9 and "-".`);
-  const said = element('div', { id: 'sent' });
+  const message = element('div', { id: 'sent' });
   const button = element('button', { class: 'main', id: 'send' }, 'Deposit');
   let asked = '';
   const submit = async (event) => {
     event.preventDefault();
-    said.replaceChildren();
+    message.replaceChildren();
     // A deposit stays for good, so it asks once whether an empty one is meant.
     if (content.record?.pattern.population === 0 && asked !== token.value) {
       asked = token.value;
-      said.replaceChildren(element('p', { class: 'refusal', role: 'alert' },
+      message.replaceChildren(element('p', { class: 'refusal', role: 'alert' },
         'This pattern has no live cells. Press Deposit again to store it all the same.',
       ));
       return;
     }
     button.disabled = true;
     try {
-      await send(content, member, said, page);
+      await send(content, member, message, page);
     } catch (error) {
       if (!page.signal.aborted) {
-        said.replaceChildren(content.refused(error));
+        message.replaceChildren(content.refused(error));
         if (error.name === 'no-reply') button.replaceChildren('Send again');
       }
     } finally {
@@ -321,7 +321,7 @@ function singlePart(content, token, page) {
       button,
       element('span', { class: 'hint' }, 'A deposit can’t be changed or deleted.'),
     ),
-    said,
+    message,
     element('details', {},
       element('summary', {}, 'Token'),
       field('Token', token, 'Made of the file. Sent again under the same token, a file is kept once.'),
@@ -378,14 +378,14 @@ export function depositForm(page) {
   const { part, submit } = singlePart(content, token, page);
   const form = element('form', { class: 'deposit', submit },
     content.preview,
-    element('div', {}, dropPart(content, (files) => page.taken(files), page), part),
+    element('div', {}, dropPart(content, (files) => page.acceptFiles(files), page), part),
   );
   page.root.append(element('h1', { tabindex: -1 }, 'New deposit'), form);
-  page.taken = takerOf(form, part, content, page);
+  page.acceptFiles = takerOf(form, part, content, page);
   const typed = draft('pattern');
   const texts = content.drafts;
   const passed = passedFiles();
   content.take(passed || !typed ? new Uint8Array() : new TextEncoder().encode(typed), true);
-  if (passed) page.taken(passed);
+  if (passed) page.acceptFiles(passed);
   else if (typed) content.restore(texts);
 }

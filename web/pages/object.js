@@ -38,8 +38,8 @@ export function objectFacts(code, period, pattern) {
     cells.replaceChildren(`${withCommas(least)}${isSame ? '' : ' in the smallest phase'}`);
     speed.replaceChildren(speedText(moved.column, moved.row, period));
   };
-  const list = element('dl', { class: 'facts' }, facts.map(([term, said]) => (
-    element('div', {}, element('dt', {}, term), element('dd', {}, said))
+  const list = element('dl', { class: 'facts' }, facts.map(([term, description]) => (
+    element('div', {}, element('dt', {}, term), element('dd', {}, description))
   )));
   return { list, listener };
 }
@@ -154,12 +154,12 @@ export async function objectParts(
   if (found) listener(found);
   const phases = found?.phases ?? [];
   const play = phases.length > 1 ? playButton(picture, phases, code, page.signal) : null;
-  const said = period > MOST_PHASES
+  const summary = period > MOST_PHASES
     ? `The first ${MOST_PHASES} of ${plural(period, 'phase')}, computed by your browser`
     : `${plural(period, 'phase')}, computed by your browser`;
   const drawn = phases.length > 1
     ? [element('details', { id: 'phases' },
-      element('summary', {}, said),
+      element('summary', {}, summary),
       element('div', { class: 'phases' }, phases.map((phase, at) => thumbnail(phase, SIDE, SIDE, `Phase ${at}`))),
     )]
     : [];

@@ -94,22 +94,22 @@ export function searchForm(asked = NOTHING) {
 
 /** The deposits that match the query in an address. */
 export async function results(page, query) {
-  const said = element('p', { class: 'count', role: 'status' }, 'Reading the index…');
-  page.root.append(said);
+  const message = element('p', { class: 'count', role: 'status' }, 'Reading the index…');
+  page.root.append(message);
   const head = await indexHead();
   if (!head) {
-    said.replaceChildren('This archive has no index, so its deposits can’t be searched.');
-    said.before(...await namedLines(askedBy(query).text, []));
+    message.replaceChildren('This archive has no index, so its deposits can’t be searched.');
+    message.before(...await namedLines(askedBy(query).text, []));
     return;
   }
   const all = await allDeposits((number, of) => {
-    if (number < of) said.replaceChildren(`Reading the index: ${withCommas(number)} of ${withCommas(of)} blocks…`);
+    if (number < of) message.replaceChildren(`Reading the index: ${withCommas(number)} of ${withCommas(of)} blocks…`);
   }, page.signal);
   const asked = askedBy(query);
   if (asked.text) await addComments(all, page.signal);
   const rows = search(all, asked);
-  said.before(...await namedLines(asked.text, [...new Set(all.map(({ member }) => member))]));
-  said.replaceChildren(rows.length === 0
+  message.before(...await namedLines(asked.text, [...new Set(all.map(({ member }) => member))]));
+  message.replaceChildren(rows.length === 0
     ? `None of ${plural(all.length, 'deposit')} matches.`
     : `${plural(rows.length, 'deposit')} of ${withCommas(all.length)}, best matches first.`);
   page.root.append(...shownRows(page, rows), indexNote(head));

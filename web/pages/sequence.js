@@ -13,7 +13,7 @@ export class Sequence {
   caption = element('span', { class: 'caption', dir: 'auto' });
   place = element('span', { id: 'place' });
   source = element('p', { class: 'source' });
-  said = element('div');
+  message = element('div');
   bar = element('div');
   /** The entry that is shown, and the player of its deposit. @type {import('./collected.js').Entry | null} */
   entry = null;
@@ -34,7 +34,7 @@ export class Sequence {
       element('div', { class: 'seen' }, this.canvas),
       this.bar,
       this.source,
-      this.said,
+      this.message,
     );
     page.keys['['] = () => this.go(-1);
     page.keys[']'] = () => this.go(1);
@@ -72,7 +72,7 @@ export class Sequence {
     const { signal } = this.#end;
     if (this.page.signal.aborted) return;
     this.entry = entry;
-    this.said.replaceChildren();
+    this.message.replaceChildren();
     this.link.href = entry.address;
     this.mark();
     this.#begin(entry.item.number, signal);
@@ -118,7 +118,7 @@ export class Sequence {
 
   compared(at, isSame) {
     if (isSame) return;
-    this.said.replaceChildren(element('p', { class: 'refusal', role: 'alert' },
+    this.message.replaceChildren(element('p', { class: 'refusal', role: 'alert' },
       `The page’s generation ${withCommas(at)} differs from the archive’s, which is shown from here on.`,
     ));
   }
@@ -128,7 +128,7 @@ export class Sequence {
   }
 
   failed(error) {
-    this.said.replaceChildren(...[
+    this.message.replaceChildren(...[
       refusal(error),
       againButton(error, () => this.show(this.entry, false)),
     ].filter(Boolean));

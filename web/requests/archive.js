@@ -61,14 +61,14 @@ async function askOnce(path, options) {
 }
 
 /** Sends a request, and again after each pause as long as it did not reach the archive or had no effect. */
-async function askAgain(path, options, pauses, said = (_error) => {}) {
+async function askAgain(path, options, pauses, onWait = (_error) => {}) {
   for (let tries = 0; ; tries += 1) {
     try {
       return await askOnce(path, options);
     } catch (error) {
       const again = ['no-reply', 'too-many-requests', 'unavailable'].includes(error.name);
       if (!again || tries === pauses.length) throw error;
-      said(error);
+      onWait(error);
       await pause(Math.max(pauses[tries], error.name === 'too-many-requests' ? error.wait : 0), options.signal);
     }
   }
@@ -187,12 +187,12 @@ const sent = (member, token, body, signal) => ({
 });
 
 /**
- * Deposits a file, and returns its number. If no reply comes, it is sent again with the same token, and `said` is
+ * Deposits a file, and returns its number. If no reply comes, it is sent again with the same token, and `onWait` is
  * called.
  */
-export async function sendDeposit(member, token, bytes, said, signal) {
+export async function sendDeposit(member, token, bytes, onWait, signal) {
   const number = parsed(
-    await askAgain('/deposits', sent(member, token, bytes, signal), SEND_PAUSES, said),
+    await askAgain('/deposits', sent(member, token, bytes, signal), SEND_PAUSES, onWait),
     'deposit',
   ).deposit;
   seen = Math.max(seen, number);
@@ -201,9 +201,9 @@ export async function sendDeposit(member, token, bytes, said, signal) {
 
 /**
  * Requests a census, and returns its number. If the gateway refuses it for its rate, it never reached the archive:
- * `said` is called with the milliseconds until it is sent again.
+ * `onWait` is called with the milliseconds until it is sent again.
  */
-export async function sendCensus(member, token, number, at, limit, said, signal) {
+export async function sendCensus(member, token, number, at, limit, onWait, signal) {
   const end = performance.now() + CENSUS_PATIENCE;
   for (;;) {
     try {
@@ -212,7 +212,7 @@ export async function sendCensus(member, token, number, at, limit, said, signal)
     } catch (error) {
       if (error.name !== 'too-many-requests' || performance.now() > end) throw error;
       const wait = Math.max(error.wait, PAUSES[0]);
-      said(wait);
+      onWait(wait);
       await pause(wait, signal);
     }
   }

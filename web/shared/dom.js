@@ -47,9 +47,9 @@ export const plural = (number, one, more = `${one}s`) => `${withCommas(number)} 
 
 /** A field of a form with its label. */
 export function field(label, input, hint) {
-  const said = hint ? element('small', { id: `${input.id}-hint` }, hint) : null;
-  if (said) input.setAttribute('aria-describedby', said.id);
-  return element('p', { class: 'field' }, element('label', { for: input.id }, label), input, said);
+  const message = hint ? element('small', { id: `${input.id}-hint` }, hint) : null;
+  if (message) input.setAttribute('aria-describedby', message.id);
+  return element('p', { class: 'field' }, element('label', { for: input.id }, label), input, message);
 }
 
 /** Why something was refused, and what to do; with the line of the file, if it is known. */

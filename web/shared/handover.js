@@ -7,17 +7,17 @@ let note = null;
 
 /**
  * Stores files for the page that deposits them.
- * @param {(File | Blob)[]} given
+ * @param {(File | Blob)[]} newFiles
  */
-export function passFiles(given) {
-  files = given;
+export function passFiles(newFiles) {
+  files = newFiles;
 }
 
 /** The files that were passed, once; nothing if there are none. */
 export function passedFiles() {
-  const taken = files;
+  const passed = files;
   files = null;
-  return taken;
+  return passed;
 }
 
 /**

@@ -56,7 +56,7 @@ OTHERS = [
 # The most lines of a page: README is two pages, the others with more are lists, or are looked things up in.
 LENGTHS = {
     "README.md": 170,
-    "bench/README.md": 165,
+    "bench/README.md": 160,
     "docs/GUIDE.md": 360,
     "docs/HAULS.md": 175,
     API: 270,

@@ -403,7 +403,7 @@ return [...performance.getEntriesByType('navigation'), ...performance.getEntries
   .filter(([path]) => path === '/d' || path.startsWith('/web/') || path === '/favicon.ico');
 """
 # The most bytes that the list of deposits may load before it asks the archive, uncompressed.
-MOST_BYTES = 96_000
+MOST_BYTES = 100_000
 
 
 def light(_gateway: Gateway, browser: Browser, base: str, _folder: str) -> None:

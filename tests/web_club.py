@@ -41,7 +41,9 @@ def listed(_gateway: Gateway, _browser: Browser, _base: str, _folder: str) -> No
     """The page about the modules names each of them once, in the row of its folder, and no others."""
     page = content(os.path.join(WEB, "README.md")).decode()
     rows = [line.split("|") for line in page.splitlines() if line.startswith("| `")]
-    named = [(folder.strip("` ./"), name) for _, folder, what, _ in rows for name in re.findall(r"`([A-Za-z0-9]+)`", what)]
+    named = [
+        (folder.strip("` ./"), name) for _, folder, what, _ in rows for name in re.findall(r"`([A-Za-z0-9]+)`", what)
+    ]
     modules = [
         (os.path.relpath(folder, WEB).strip("."), name[: -len(".js")])
         for folder, _, names in os.walk(WEB)

@@ -45,6 +45,7 @@ def club(folder: str, name: str, *settings: str) -> Iterator[tuple[Gateway, str]
 
 def moves(browser: Browser) -> bool:
     """Whether what the canvas shows changes soon."""
+    browser.one("#playing")
     before = browser.run(PICTURE)
     return bool(browser.until(lambda: browser.run(PICTURE) != before))
 

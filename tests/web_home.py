@@ -45,6 +45,7 @@ def club(folder: str, name: str, *settings: str) -> Iterator[tuple[Gateway, str]
 
 def moves(browser: Browser) -> bool:
     """Whether what the canvas shows changes soon."""
+    browser.one("#playing")
     before = browser.run(PICTURE)
     return bool(browser.until(lambda: browser.run(PICTURE) != before))
 
@@ -158,7 +159,7 @@ def pupil(gateway: Gateway, browser: Browser, base: str, _folder: str) -> None:
         new.press_cell(*cell)
     check("it is drawn", browser.until(lambda: "5 cells, 3 by 3" in browser.text(".preview")))
     new.write("#text-name", "My glider")
-    new.write("#member", "pupil-1")
+    new.write("#member", "dora")
     new.press("#send")
     check("it is deposited", browser.until(lambda: browser.text("h1").startswith("My glider")))
     check("the page says so", browser.until(lambda: "Deposited." in browser.text(".note")))

@@ -157,7 +157,8 @@ def upgrades_an_old_archive(debian: Debian) -> None:
         debian.run("dpkg-query", "-W", "-f", "${Version}", "life").stdout,
     )
     debian.ledger[block] = ledger.Deposit("bob", "block", BLOCK)
-    debian.run("sh", "-c", f"chown life: {ARCHIVE}; chmod 600 {ARCHIVE}; rm -f /srv/read.db")
+    # Without the copies of earlier upgrades from this version the new one has the plain name.
+    debian.run("sh", "-c", f"chown life: {ARCHIVE}; chmod 600 {ARCHIVE}; rm -f /srv/read.db {COPIES}/before-*.db")
     same("an archive of schema version 1", version_in(debian.path(ARCHIVE)), ([1], None))
     done = installed(debian, LATEST)
     check(

@@ -100,7 +100,7 @@ def played(gateway: Gateway, browser: Browser, base: str, _folder: str) -> None:
     browser.open(f"{base}/l/{numbers[0]}~First,{numbers[1]}at1~Second,900000,{numbers[2]}")
     check("the first", browser.until(lambda: seen(browser)[0] == later(texts[0], 0)))
     same("its place", [browser.text("#place"), browser.text(".sequence .caption")], ["1 of 4", "First"])
-    check("there is none before", browser.one("#before").get_attribute("disabled"))
+    check("the first has no deposit before it", browser.one("#before").get_attribute("disabled"))
     browser.one("#next").click()
     check("the second, at its generation", browser.until(lambda: seen(browser)[0] == later(texts[1], 1)))
     check("its name", browser.until(lambda: browser.text("#now") == "in-a-row 2, generation 1"))

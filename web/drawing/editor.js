@@ -39,7 +39,7 @@ const KEYS = [
 ];
 const encoded = (text) => new TextEncoder().encode(text);
 
-/** The pattern in a text of any form that the pages read; null if there is none. @param {string} text */
+/** The pattern in a text of any form that the pages read, or null. @param {string} text */
 const patternIn = (text) => readGiven(encoded(text), { asOld: true, isCut: true }).record?.pattern ?? null;
 
 /** Adds these keys to the dialog. @param {AbortSignal} signal */

@@ -44,7 +44,7 @@ function chosenCollection() {
   return readCollection(content.split('/l/')[1] ?? '');
 }
 
-/** A section with the club's choice; nothing if there is none. */
+/** A section with the club's choice, if the club has made one. */
 function chosenPart(page, { title, items }) {
   if (items.length === 0) return '';
   const rows = items.slice(0, CHOSEN).map(({ number, at, caption }) => ({ id: number, at, name: caption }));

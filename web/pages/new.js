@@ -180,7 +180,7 @@ class Content {
   /** Shows how this page reads the file, before the archive has it. */
   #seen() {
     if (!this.read) {
-      return [element('p', { class: 'empty' }, 'Press cells to draw them. Two fingers zoom, and so does the wheel.')];
+      return [element('p', { class: 'empty' }, 'Press cells to draw them. Zoom with two fingers or the wheel.')];
     }
     const { record, notes, isOld, fault } = this.read;
     const old = isOld

@@ -1,7 +1,8 @@
-//! An archive in files: opened, asked, closed and opened again.
+//! An archive in files: opening it, sending requests, closing it and opening it again. Also helpers for tests with
+//! stops.
 //!
-//! Calls on a store of files take long to prove, so each function here makes only a few, returns the files on every path, and
-//! drops no store. All files have one type, which stops after some calls, or never.
+//! Calls on a store of files take long to prove, so each function here makes only a few, returns the files on every
+//! path, and drops no store. All files have one type, which stops after some calls, or never.
 use crate::requests::{Asked, BLOCK, BLOCK_SHOWN, GLIDER, GLIDER_SHOWN, Row, Said, other};
 use life_store::{Archive, OpenFault};
 use sqlite::{Alter, Connection, FileStore, Files, Options};
@@ -12,11 +13,10 @@ use std::test::Fail;
 /// A file that stops after some calls.
 pub type Stopping = Fuse<Memory>;
 
-/// The first row that an archive over files answers differently, or why it can't be opened. Closing comes after the rows: if it
-/// fails, it counts as the row that differs.
+/// The first row whose reply differs, or the fault of the opening. A failed close counts as the row after the last.
 pub type Outcome = Result<Option<usize>, OpenFault>;
 
-/// Two files of these bytes, which stop after this many calls.
+/// Two files with these contents, which stop after this many calls.
 pub fn stopping(log: Memory, log_calls: u64, db: Memory, db_calls: u64) -> Files<Stopping> {
     Files {
         log: Fuse::new(log, log_calls),
@@ -29,7 +29,7 @@ pub fn blank(alloc: Global, log_calls: u64, db_calls: u64) -> Files<Stopping> {
     stopping(Memory::new(alloc), log_calls, Memory::new(alloc), db_calls)
 }
 
-/// The result of an opened archive that is asked and closed, and its files.
+/// Sends the rows to an opened archive and closes it. Returns the result and the files.
 fn closed<D: Disk + Drop>(
     alloc: Global,
     opened: Result<Archive<FileStore<D>>, (OpenFault, Files<D>)>,
@@ -47,7 +47,7 @@ fn closed<D: Disk + Drop>(
     }
 }
 
-/// Opens an archive over files of any kind, asks it, and closes it.
+/// Opens an archive over files of any type, sends the rows, and closes it.
 fn over_any<D: Disk + Drop>(
     alloc: Global,
     files: Files<D>,
@@ -60,7 +60,7 @@ fn over_any<D: Disk + Drop>(
     closed(alloc, Archive::open_files(alloc, files, capacity), rows)
 }
 
-/// Opens an archive over the files, asks it, and closes it. The files are always returned.
+/// Opens an archive over the files, sends the rows, and closes it. The files are always returned.
 pub fn over(
     alloc: Global,
     files: Files<Stopping>,
@@ -70,7 +70,7 @@ pub fn over(
     over_any(alloc, files, capacity, rows)
 }
 
-/// The same over files that are opened with capacity 2, closed, and opened again with capacity 3.
+/// The same for an archive that is opened with capacity 2 and reopened with capacity 3 before the rows.
 fn over_again<D: Disk + Drop>(alloc: Global, files: Files<D>, rows: &[Row]) -> (Outcome, Files<D>) {
     if !files.may_be_used() {
         return (Err(OpenFault::Unavailable), files);
@@ -83,13 +83,14 @@ fn over_again<D: Disk + Drop>(alloc: Global, files: Files<D>, rows: &[Row]) -> (
 
 /// An action on files that stop after this many calls.
 pub trait Stoppable: Copy {
-    /// Whether it finished without a stop, and whether the result is sound.
+    /// Whether the action finished without a stop, and whether the files are right afterwards. `None` if the test
+    /// failed.
     fn stop_at(self, alloc: Global, log_calls: u64, db_calls: u64) -> Option<(bool, bool)>;
 }
 
-/// Tries it with a stop at each call on the log, or on the database file, until there is no stop. Whether every stop left something
-/// sound.
-pub fn stands<T: Stoppable>(alloc: Global, run: T, is_log: bool) -> bool {
+/// Whether the files are right after a stop at each call on the log, or on the database file. It runs the action with
+/// later and later stops until one finishes.
+pub fn survives_each_stop<T: Stoppable>(alloc: Global, run: T, is_log: bool) -> bool {
     for calls in 0..1000u64 {
         let (log_calls, db_calls) = if is_log {
             (calls, u64::MAX)
@@ -105,14 +106,14 @@ pub fn stands<T: Stoppable>(alloc: Global, run: T, is_log: bool) -> bool {
     false
 }
 
-/// The glider and the block are stored as 1 and 2, and nothing else, in an archive of capacity 2.
+/// With capacity 2, the glider and the block become deposits 1 and 2, and a third deposit is refused.
 const KEEPS_TWO: [Row; 3] = [
     (Asked::Deposit("ann", "t1", GLIDER), Said::Deposited(1)),
     (Asked::Deposit("ann", "t2", BLOCK), Said::Deposited(2)),
     (Asked::Deposit("ann", "t3", BLOCK), Said::Refused(10)),
 ];
 
-/// Both are there, even with capacity 1, and nothing else is stored.
+/// With capacity 1, both are still stored, and a new deposit is refused.
 const HAS_TWO: [Row; 4] = [
     (Asked::Deposit("ann", "t1", GLIDER), Said::Deposited(1)),
     (Asked::Deposit("ann", "t4", GLIDER), Said::Refused(10)),
@@ -120,15 +121,15 @@ const HAS_TWO: [Row; 4] = [
     (Asked::Show(2), Said::File(BLOCK_SHOWN)),
 ];
 
-/// With capacity 3 one more is stored.
+/// With capacity 3, one more deposit is accepted.
 const KEEPS_A_THIRD: [Row; 3] = [
     (Asked::Show(2), Said::File(BLOCK_SHOWN)),
     (Asked::Deposit("ann", "t4", GLIDER), Said::Deposited(3)),
     (Asked::Deposit("ann", "t5", GLIDER), Said::Refused(10)),
 ];
 
-/// The results of opening the same files several times: an archive stores two deposits, and is opened with two invalid
-/// capacities, with capacity 1, and, after closing, with capacity 3.
+/// The results of opening the same files several times. An archive stores two deposits. It is then opened with two
+/// invalid capacities, with capacity 1, and after a reopening with capacity 3.
 fn outcomes(alloc: Global) -> [Outcome; 5] {
     let files = blank(alloc, u64::MAX, u64::MAX);
     let (first, files) = over(alloc, files, 2, KEEPS_TWO.as_slice());
@@ -156,7 +157,7 @@ fn runs<S: Alter>(conn: &mut Connection<S>, statements: &[&str]) -> bool {
     true
 }
 
-/// Whether these statements succeeded in the database of the files and it could be closed, and the files.
+/// Runs these statements in the database of the files. Returns whether they and the close succeeded, and the files.
 fn run_over<D: Disk + Drop>(
     alloc: Global,
     files: Files<D>,
@@ -177,7 +178,7 @@ fn run_over<D: Disk + Drop>(
     }
 }
 
-/// The files of a new database after these statements.
+/// The files of a new database after these statements, if all of them succeeded.
 pub fn made_by(alloc: Global, statements: &[&str]) -> Option<Files<Stopping>> {
     match run_over(alloc, blank(alloc, u64::MAX, u64::MAX), statements) {
         (true, files) => Some(files),
@@ -185,10 +186,10 @@ pub fn made_by(alloc: Global, statements: &[&str]) -> Option<Files<Stopping>> {
     }
 }
 
-/// The schema version that a database has, and how many flags of censuses, if it has a table of them.
+/// The schema version of a database, and the number of its census flags, if it has the table.
 pub type Schema = (Option<i64>, Option<i64>);
 
-/// The number in the first column of the first row that a query finds.
+/// The number in the first column of a query's first row, if any.
 fn number<S: Alter>(conn: &mut Connection<S>, query: &str) -> Option<i64> {
     match conn.query_row(query, &[]) {
         Ok(row) => row.get(0).ok(),
@@ -202,7 +203,7 @@ fn schema<S: Alter>(conn: &mut Connection<S>) -> Schema {
     (version, number(conn, "SELECT count(*) FROM census_flags"))
 }
 
-/// The schema of the database of the files, read by the database alone.
+/// The schema of the database of the files. It is opened below `Archive`, which would migrate it.
 fn schema_over<D: Disk + Drop>(alloc: Global, files: Files<D>) -> (Schema, Files<D>) {
     if !files.may_be_used() {
         return ((None, None), files);

@@ -1,4 +1,4 @@
-//! Depositing files: whole, byte by byte, and with a take or a put that fails.
+//! Depositing files: in one piece, byte by byte, and with a read or a write that fails.
 use crate::requests::{BLOCK, Example, GLIDER, other_in_memory};
 use life_archive::{ArchiveStop, run_deposit};
 use life_desk::Refusal;
@@ -10,7 +10,8 @@ use sqlite::Alter;
 use std::alloc::Global;
 use std::test::Fail;
 
-/// A member and a token, a file, how it comes, the expected answer and output, and how many deposits the archive has then.
+/// A member and a token, a file, how it is read, the expected result and output, and how many deposits the archive has
+/// then.
 type Run = (
     (&'static str, &'static str),
     &'static str,
@@ -38,7 +39,7 @@ const TOKEN_REUSED: ArchiveStop = ArchiveStop::Desk(Refusal::TokenReused);
 
 const FULL: ArchiveStop = ArchiveStop::Desk(Refusal::Full);
 
-/// Deposits in a new archive of capacity 2, one after the other.
+/// Deposits in a new archive of capacity 2, in turn.
 const RUNS: [Run; 11] = [
     (
         ("ann", "t1"),
@@ -94,7 +95,7 @@ fn files_are_deposited(rt: HostRuntime) -> Result<(), Fail> {
     Ok(())
 }
 
-/// Stops of an archive, and the lines that are printed for them.
+/// Stops of a job over an archive, and their lines on standard error.
 const LINES: [(ArchiveStop, &str); 5] = [
     (ArchiveStop::Job(Stop::Unavailable), "refused: unavailable"),
     (FULL, "refused: full"),

@@ -1,4 +1,4 @@
-//! Tests over the archive: its requests and replies, its files, and its pages.
+//! Tests of the archive: requests and replies, files, HTTP messages, and sessions.
 #![tactic(auto)]
 
 #[cfg(test)]

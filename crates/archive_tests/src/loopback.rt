@@ -1,4 +1,5 @@
-//! A message over loopback, within one process: a peer connects, sends and ends; then the server accepts it, answers and ends.
+//! A message over loopback, within one process and without threads. A peer connects, sends and shuts down; then the
+//! server accepts the connection, answers and shuts down.
 use crate::pages::{DEPOSITED, GLIDER};
 use life_archive::run_serve;
 use life_pages::IoFault;
@@ -25,7 +26,7 @@ fn answer_next(rt: &HostRuntime, listener: &TcpListener) -> io::Result<Result<()
     Ok(served)
 }
 
-/// How serving a peer that sends this ends, and what the peer receives.
+/// The result of serving a peer that sends these bytes, and the bytes that the peer receives.
 fn exchanged(rt: &HostRuntime, sent: &[u8]) -> io::Result<(Result<(), IoFault>, Vec<u8>)> {
     let listener = TcpListener::bind(rt, SocketAddr::from((Ipv4Addr::LOCALHOST, 0)))?;
     let mut peer = TcpStream::connect(rt, listener.local_addr()?)?;
@@ -37,7 +38,7 @@ fn exchanged(rt: &HostRuntime, sent: &[u8]) -> io::Result<(Result<(), IoFault>, 
     Ok((served, received))
 }
 
-/// Whether a deposit is acknowledged.
+/// Whether the peer's deposit is acknowledged.
 fn is_acknowledged(rt: &HostRuntime) -> bool {
     match exchanged(rt, GLIDER.as_bytes()) {
         Ok((served, received)) => served == Ok(()) && received.as_slice() == DEPOSITED.as_bytes(),

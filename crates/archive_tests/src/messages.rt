@@ -1,7 +1,7 @@
-//! Worked messages in pieces: byte by byte, with each take that fails, and with each put that fails.
+//! Example messages in pieces: byte by byte, with each read failing, and with each write failing.
 use crate::pages::{
     Act, BAD, BLOCK_UNDER_T1, CENSUS, COUNTED, DEPOSITED, Exchange, FIELD, GLIDER, NO_SUCH_DEPOSIT,
-    SHOW_9, TOKEN_REUSED, comes, whole,
+    SHOW_9, TOKEN_REUSED, is_answered, whole,
 };
 use crate::requests::{Example, other_in_memory};
 use life_pages::IoFault;
@@ -14,15 +14,15 @@ use std::test::Fail;
 /// How a stream of messages ends.
 #[derive(Clone, Copy, PartialEq, Eq)]
 enum End {
-    /// The end is found.
+    /// The stream ends after the last message.
     Found,
-    /// The end is found inside a message.
+    /// The stream ends inside a message.
     Within,
-    /// Nothing is taken after the last message.
+    /// The last message closes the connection, so nothing is read after it.
     Last,
 }
 
-/// A stream of messages with the reply to each.
+/// A stream of example messages, with the reply to each.
 #[derive(Clone, Copy)]
 struct Worked {
     messages: &'static [(&'static str, &'static str)],
@@ -37,7 +37,7 @@ fn stream(alloc: Global, worked: Worked) -> Result<String, AllocError> {
     Ok(text)
 }
 
-/// The replies to the messages that are whole after this many bytes.
+/// The replies to the messages that are complete after this many bytes.
 fn replies_after(alloc: Global, worked: Worked, bytes: usize) -> Result<String, AllocError> {
     let mut text = String::new(alloc);
     let mut end = 0_usize;
@@ -50,7 +50,7 @@ fn replies_after(alloc: Global, worked: Worked, bytes: usize) -> Result<String, 
     Ok(text)
 }
 
-/// All that is put.
+/// All replies, with the refusal of a message that is cut off at the end.
 fn all_replies(alloc: Global, worked: Worked) -> Result<String, AllocError> {
     let mut text = replies_after(alloc, worked, usize::MAX)?;
     if worked.end == End::Within {
@@ -59,7 +59,7 @@ fn all_replies(alloc: Global, worked: Worked) -> Result<String, AllocError> {
     Ok(text)
 }
 
-/// Whether a failing take ends the stream after the replies to all whole messages, whichever take it is.
+/// Whether any failing read stops serving after the replies to all complete messages.
 fn takes_fail<S: Alter>(
     alloc: Global,
     archive: &mut Archive<S>,
@@ -80,14 +80,14 @@ fn takes_fail<S: Alter>(
             put: put.as_bytes(),
             ..exchange
         };
-        if !comes(alloc, archive, failing) {
+        if !is_answered(alloc, archive, failing) {
             return false;
         }
     }
     true
 }
 
-/// Whether a failing put ends the stream after the bytes before it, whichever put it is.
+/// Whether any failing write stops serving after the bytes before it.
 fn puts_fail<S: Alter>(alloc: Global, archive: &mut Archive<S>, exchange: Exchange<'_>) -> bool {
     for end in 0..exchange.put.len() {
         let failing = Exchange {
@@ -96,14 +96,14 @@ fn puts_fail<S: Alter>(alloc: Global, archive: &mut Archive<S>, exchange: Exchan
             put: &exchange.put[..end],
             ..exchange
         };
-        if !comes(alloc, archive, failing) {
+        if !is_answered(alloc, archive, failing) {
             return false;
         }
     }
     true
 }
 
-/// Whether the stream is answered byte by byte, and whichever take or put fails.
+/// Whether the stream is answered correctly byte by byte, and with any failing read or write.
 fn is_served<S: Alter>(alloc: Global, archive: &mut Archive<S>, worked: Worked) -> bool {
     let (Ok(stream), Ok(replies)) = (stream(alloc, worked), all_replies(alloc, worked)) else {
         return false;
@@ -112,16 +112,16 @@ fn is_served<S: Alter>(alloc: Global, archive: &mut Archive<S>, worked: Worked) 
         flow: Flow::Bytewise,
         ..whole(stream.as_str(), replies.as_str())
     };
-    comes(alloc, archive, exchange)
+    is_answered(alloc, archive, exchange)
         && takes_fail(alloc, archive, worked, exchange)
         && puts_fail(alloc, archive, exchange)
 }
 
-/// What an archive does.
+/// A step of an example: an act from `pages`, or messages in pieces.
 #[derive(Clone, Copy)]
 enum Step {
     Does(Act),
-    /// It answers these messages byte by byte, and whichever take or put fails.
+    /// The archive answers these messages byte by byte, and with any failing read or write.
     Serves(&'static [(&'static str, &'static str)], End),
 }
 
@@ -150,8 +150,8 @@ const TWO_MESSAGES: [(&str, &str); 2] = [
     ),
 ];
 
-/// Messages to an archive with the glider: its deposit again; another deposit under its token; a number that does not exist; the deposit
-/// without its last byte; two messages; nothing; and only a line end.
+/// Messages to an archive with the glider: its deposit again, another deposit under its token, a number that does not
+/// exist, the deposit without its last byte, two messages, an empty stream, and only a line end.
 const BY_THE_GLIDER: [Step; 8] = [
     Step::Does(Act::Answers(GLIDER, DEPOSITED)),
     Step::Serves(&[(GLIDER, DEPOSITED)], End::Found),

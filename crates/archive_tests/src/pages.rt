@@ -1,4 +1,4 @@
-//! Messages to an archive: worked ones, whole, in pieces, and with a call that fails.
+//! Example HTTP messages to an archive: in one piece, in several, and with a read or a write that fails.
 //!
 //! Messages and replies are values with nothing to drop, and all streams have one type, which moves bytes in pieces.
 use crate::requests::{Example, other_in_memory};
@@ -37,7 +37,7 @@ pub const BAD: &str =
 const NOT_FOUND: &str =
     "HTTP/1.1 404 Not Found\r\ncontent-type: application/json\r\ncontent-length: 37\r\n\r\n{\"error\":\"no-such-page\",\"refusal\":12}";
 
-/// A stream and its result.
+/// A stream, how it is read and written, and the expected result and output.
 #[derive(Clone, Copy)]
 pub struct Exchange<'a> {
     pub stream: &'a [u8],
@@ -46,7 +46,7 @@ pub struct Exchange<'a> {
     pub put: &'a [u8],
 }
 
-/// A stream that comes whole, and the replies to it.
+/// A stream in one piece, and the expected replies to it.
 pub fn whole<'a>(stream: &'a str, replies: &'a str) -> Exchange<'a> {
     Exchange {
         stream: stream.as_bytes(),
@@ -56,8 +56,12 @@ pub fn whole<'a>(stream: &'a str, replies: &'a str) -> Exchange<'a> {
     }
 }
 
-/// Whether a stream has this result.
-pub fn comes<S: Alter>(alloc: Global, archive: &mut Archive<S>, exchange: Exchange<'_>) -> bool {
+/// Whether serving the stream gives the expected result and output.
+pub fn is_answered<S: Alter>(
+    alloc: Global,
+    archive: &mut Archive<S>,
+    exchange: Exchange<'_>,
+) -> bool {
     let Ok(mut input) = exchange.flow.inlet(alloc, exchange.stream) else {
         return false;
     };
@@ -69,26 +73,26 @@ pub fn comes<S: Alter>(alloc: Global, archive: &mut Archive<S>, exchange: Exchan
 /// The path of a GET, and the status line, the type and the body of its reply.
 type Page = (&'static str, &'static str, &'static str, &'static str);
 
-/// What an archive does, as a row of a table.
+/// An expected act of an archive, as a row of a table.
 #[derive(Clone, Copy)]
 pub enum Act {
-    /// It answers this to a stream.
+    /// It gives these replies to a stream.
     Answers(&'static str, &'static str),
-    /// It answers this to a stream of bytes that are not text.
+    /// It gives these replies to a stream that is not UTF-8.
     AnswersBytes(&'static [u8], &'static str),
-    /// It shows this page.
+    /// It gives this reply to a GET.
     Shows(Page),
     /// It has this many deposits.
     Has(u64),
-    /// It gives this answer to a message with this many header lines.
+    /// It gives this reply to a message with this many header lines.
     AnswersLines(usize, &'static str),
-    /// It answers this to a text after more line ends than a head has bytes.
-    AnswersBehindLineEnds(&'static str, &'static str),
-    /// It answers each prefix of the glider's deposit as a bad message.
+    /// It gives this reply to a text after 20,000 line ends, more than a head may have bytes.
+    AnswersAfterLineEnds(&'static str, &'static str),
+    /// It refuses each proper prefix of the glider's deposit as a bad message.
     AnswersBeginnings,
 }
 
-/// Whether the archive shows a page.
+/// Whether the archive gives this reply to a GET.
 fn shows<S: Alter>(alloc: Global, archive: &mut Archive<S>, page: Page) -> bool {
     let (path, status, kind, body) = page;
     let length = body.len();
@@ -97,7 +101,9 @@ fn shows<S: Alter>(alloc: Global, archive: &mut Archive<S>, page: Page) -> bool 
         "HTTP/1.1 {status}\r\ncontent-type: {kind}\r\ncontent-length: {length}\r\n\r\n{body}"
     );
     match (stream, reply) {
-        (Ok(stream), Ok(reply)) => { comes(alloc, archive, whole(stream.as_str(), reply.as_str())) }
+        (Ok(stream), Ok(reply)) => {
+            is_answered(alloc, archive, whole(stream.as_str(), reply.as_str()))
+        }
         _ => false,
     }
 }
@@ -123,27 +129,27 @@ pub fn repeated(
     Ok(text)
 }
 
-/// Whether a generated text that comes whole has this result.
-fn comes_of<S: Alter>(
+/// Whether a generated text, in one piece, gets these replies.
+fn is_answered_for<S: Alter>(
     alloc: Global,
     archive: &mut Archive<S>,
     text: Result<String, AllocError>,
     replies: &str,
 ) -> bool {
     match text {
-        Ok(text) => comes(alloc, archive, whole(text.as_str(), replies)),
+        Ok(text) => is_answered(alloc, archive, whole(text.as_str(), replies)),
         Err(_) => false,
     }
 }
 
-/// Whether each prefix of the glider's deposit is answered as a bad message.
+/// Whether each proper prefix of the glider's deposit is refused as a bad message.
 fn has_bad_beginnings<S: Alter>(alloc: Global, archive: &mut Archive<S>) -> bool {
     for end in 1..GLIDER.len() {
         let exchange = Exchange {
             stream: &GLIDER.as_bytes()[..end],
             ..whole("", BAD)
         };
-        if !comes(alloc, archive, exchange) {
+        if !is_answered(alloc, archive, exchange) {
             return false;
         }
     }
@@ -153,22 +159,22 @@ fn has_bad_beginnings<S: Alter>(alloc: Global, archive: &mut Archive<S>) -> bool
 impl Example for Act {
     fn holds<S: Alter>(self, alloc: Global, archive: &mut Archive<S>) -> bool {
         match self {
-            Act::Answers(stream, replies) => comes(alloc, archive, whole(stream, replies)),
+            Act::Answers(stream, replies) => is_answered(alloc, archive, whole(stream, replies)),
             Act::AnswersBytes(stream, replies) => {
                 let exchange = Exchange {
                     stream,
                     ..whole("", replies)
                 };
-                comes(alloc, archive, exchange)
+                is_answered(alloc, archive, exchange)
             }
             Act::Shows(page) => shows(alloc, archive, page),
             Act::Has(number) => kept(archive) == Some(number),
             Act::AnswersLines(lines, reply) => {
                 let message = repeated(alloc, "GET /x HTTP/1.1\r\n", "a: b\r\n", lines, "\r\n");
-                comes_of(alloc, archive, message, reply)
+                is_answered_for(alloc, archive, message, reply)
             }
-            Act::AnswersBehindLineEnds(text, reply) => {
-                comes_of(
+            Act::AnswersAfterLineEnds(text, reply) => {
+                is_answered_for(
                     alloc,
                     archive,
                     repeated(alloc, "", "\n", 20_000, text),
@@ -180,7 +186,7 @@ impl Example for Act {
     }
 }
 
-/// A deposit, the same again, another under its token, and a number that does not exist.
+/// A deposit, the same again, another with its token, and a number that does not exist.
 const DEPOSITS: &[Act] = &[
     Act::Answers(GLIDER, DEPOSITED),
     Act::Answers(GLIDER, DEPOSITED),
@@ -205,16 +211,16 @@ const BAD_MESSAGES: &[Act] = &[
     ),
     Act::AnswersLines(32, NOT_FOUND),
     Act::AnswersLines(33, BAD),
-    Act::AnswersBehindLineEnds("GET /deposits/1 HTTP/1.1\r\n\r\n", BAD),
+    Act::AnswersAfterLineEnds("GET /deposits/1 HTTP/1.1\r\n\r\n", BAD),
     Act::AnswersBeginnings,
     Act::Has(0),
 ];
 
-/// Streams of nothing, of line ends, and of two messages, the second of which closes the connection.
+/// An empty stream, line ends, and two messages; the second closes the connection, so the bytes after it get no reply.
 const STREAMS: &[Act] = &[
     Act::Answers("", ""),
     Act::Answers("\r\n\r\n", ""),
-    Act::AnswersBehindLineEnds("", ""),
+    Act::AnswersAfterLineEnds("", ""),
     Act::Answers(GLIDER, DEPOSITED),
     Act::Answers(
         "GET /deposits/1 HTTP/1.1\r\n\r\nGET /deposits/1/kind/4 HTTP/1.0\r\n\r\nany bytes",
@@ -265,14 +271,15 @@ const CENSUSES: &[Act] = &[
     )),
 ];
 
-/// Two blocks so far apart that a code has no room for them.
+/// Two blocks so far apart that their pattern is too wide for a code.
 const APART: &str =
     "POST /deposits HTTP/1.1\r\nx-member: ann\r\nx-token: t1\r\ncontent-length: 31\r\n\r\nx = 54, y = 2\n2o50b2o$2o50b2o!\n";
 
 const R_PENTOMINO: &str =
     "POST /deposits HTTP/1.1\r\nx-member: ann\r\nx-token: t2\r\ncontent-length: 24\r\n\r\nx = 3, y = 3\nb2o$2o$bo!\n";
 
-/// A pattern that is too wide for a code, and one that does not repeat within the limit: the key `code` is left out.
+/// A pattern that is too wide for a code, and one that does not repeat within the limit. Both replies have no key
+/// `code`.
 const WITHOUT_A_CODE: &[Act] = &[
     Act::Answers(APART, DEPOSITED),
     Act::Shows((
@@ -295,7 +302,7 @@ const WITHOUT_A_CODE: &[Act] = &[
 
 const NO_PAGE: &str = "{\"error\":\"no-such-page\",\"refusal\":12}";
 
-/// A deposit, one without its end, routes of the deposit, and paths without a route.
+/// A deposit, a deposit whose file is cut off, routes of the first, and paths without a route.
 const PAGES: &[Act] = &[
     Act::Answers(GLIDER, DEPOSITED),
     Act::Answers(
@@ -355,7 +362,7 @@ const PAGES: &[Act] = &[
     )),
 ];
 
-/// What new archives do, each row from its table.
+/// Tables of acts, each for a new archive.
 const TABLES: [(&str, &[Act]); 6] = [
     ("a deposit comes again", DEPOSITS),
     ("bad messages are refused", BAD_MESSAGES),
@@ -373,17 +380,19 @@ fn archives_answer_messages(rt: HostRuntime) -> Result<(), Fail> {
     Ok(())
 }
 
-/// Whether a stream to a new archive of capacity 2 has this result, and the archive has this many deposits then.
+/// Whether serving the stream from a new archive of capacity 2 gives the expected result, and leaves this many
+/// deposits.
 fn comes_to_a_new_one(alloc: Global, exchange: Exchange<'_>, number: u64) -> bool {
     match Archive::open_in_memory(alloc, 2) {
         Ok(mut archive) => {
-            comes(alloc, &mut archive, exchange) && kept(&mut archive) == Some(number)
+            is_answered(alloc, &mut archive, exchange) && kept(&mut archive) == Some(number)
         }
         Err(_) => false,
     }
 }
 
-/// Whether the glider's deposit, whose take with this number fails, is stored exactly if it was taken whole.
+/// Whether the glider's deposit is stored if and only if it was read completely before the read with this number
+/// failed.
 fn stops_at_the_take(alloc: Global, number: usize) -> bool {
     let is_whole = number > GLIDER.len();
     let exchange = Exchange {
@@ -402,24 +411,25 @@ fn a_take_fails(rt: HostRuntime) -> Result<(), Fail> {
     Ok(())
 }
 
-/// Whether the glider's deposit is stored, and is found again, if a put fails after these bytes.
-fn stops_behind<S: Alter>(alloc: Global, archive: &mut Archive<S>, put: &[u8]) -> bool {
+/// Whether the glider's deposit is stored although the write after these bytes fails, and sending it again is
+/// acknowledged.
+fn stops_after<S: Alter>(alloc: Global, archive: &mut Archive<S>, put: &[u8]) -> bool {
     let exchange = Exchange {
         flow: Flow::Unwritable,
         done: Err(IoFault::Write),
         put,
         ..whole(GLIDER, "")
     };
-    comes(alloc, archive, exchange)
+    is_answered(alloc, archive, exchange)
         && kept(archive) == Some(1)
-        && comes(alloc, archive, whole(GLIDER, DEPOSITED))
+        && is_answered(alloc, archive, whole(GLIDER, DEPOSITED))
         && kept(archive) == Some(1)
 }
 
-/// Whether it is so in a new archive.
-fn stops_behind_in_a_new_one(alloc: Global, put: &[u8]) -> bool {
+/// The same for a new archive.
+fn stops_after_in_a_new_one(alloc: Global, put: &[u8]) -> bool {
     match Archive::open_in_memory(alloc, 2) {
-        Ok(mut archive) => stops_behind(alloc, &mut archive, put),
+        Ok(mut archive) => stops_after(alloc, &mut archive, put),
         Err(_) => false,
     }
 }
@@ -427,14 +437,14 @@ fn stops_behind_in_a_new_one(alloc: Global, put: &[u8]) -> bool {
 #[test]
 fn a_put_fails(rt: HostRuntime) -> Result<(), Fail> {
     for end in 0..DEPOSITED.len() {
-        assert!(rt; stops_behind_in_a_new_one(rt.alloc(), &DEPOSITED.as_bytes()[..end]));
+        assert!(rt; stops_after_in_a_new_one(rt.alloc(), &DEPOSITED.as_bytes()[..end]));
     }
     Ok(())
 }
 
-/// Whether no take comes between a whole message, the glider's deposit, and the reply to it; the same message follows once
-/// more.
-fn takes_none_before_the_reply<S: Alter>(
+/// Whether the reply to a complete message, the glider's deposit, is written before anything more is read. The same
+/// message follows once more.
+fn accepts_nothing_before_the_reply<S: Alter>(
     alloc: Global,
     archive: &mut Archive<S>,
     stream: Vec<u8>,
@@ -452,14 +462,14 @@ fn takes_none_before_the_reply<S: Alter>(
         && kept(archive) == Some(1)
 }
 
-/// Whether it is so in a new archive.
-fn takes_none(alloc: Global) -> bool {
+/// The same for a new archive.
+fn accepts_nothing(alloc: Global) -> bool {
     match (
         Archive::open_in_memory(alloc, 2),
         repeated(alloc, GLIDER, GLIDER, 1, ""),
     ) {
         (Ok(mut archive), Ok(twice)) => {
-            takes_none_before_the_reply(alloc, &mut archive, twice.into_bytes())
+            accepts_nothing_before_the_reply(alloc, &mut archive, twice.into_bytes())
         }
         _ => false,
     }
@@ -467,11 +477,11 @@ fn takes_none(alloc: Global) -> bool {
 
 #[test]
 fn no_take_before_the_reply(rt: HostRuntime) -> Result<(), Fail> {
-    assert!(rt; takes_none(rt.alloc()));
+    assert!(rt; accepts_nothing(rt.alloc()));
     Ok(())
 }
 
-/// The most takes that are made of a stream.
+/// The most reads that serving makes, as in docs/limits.csv.
 const TAKES: usize = 1_048_576;
 
 /// A deposit of this many bytes, head and body: one live cell, and line ends after the end of the pattern.
@@ -491,7 +501,7 @@ fn long_deposit(alloc: Global, bytes: usize) -> Result<String, AllocError> {
     )
 }
 
-/// Whether serving a deposit of this many bytes, one by one, ends like this, and the deposit is stored.
+/// Whether serving a deposit of this many bytes, one byte per read, has this result, and the deposit is stored.
 fn ends_bytewise(alloc: Global, bytes: usize, done: Result<(), IoFault>) -> bool {
     match long_deposit(alloc, bytes) {
         Ok(text) => {
@@ -506,7 +516,7 @@ fn ends_bytewise(alloc: Global, bytes: usize, done: Result<(), IoFault>) -> bool
     }
 }
 
-/// The last take finds the end, or is one too many.
+/// With the limit of reads used up, one more read would be needed to find the end.
 #[test]
 fn a_long_body_comes_byte_by_byte(rt: HostRuntime) -> Result<(), Fail> {
     assert!(rt; ends_bytewise(rt.alloc(), TAKES - 1, Ok(())));

@@ -1,4 +1,4 @@
-//! Worked requests and their replies, one by one and as one list.
+//! Example requests and their replies, one by one and as one list.
 //!
 //! Rows of requests and replies are values with nothing to drop. A value that has something to drop lives in one function
 //! only, which has a single exit.
@@ -51,18 +51,18 @@ pub enum Asked {
 pub enum Said {
     Deposited(u64),
     File(&'static str),
-    /// Lines of `ann` under Life: numbers and populations.
+    /// A list of deposits by `ann` under Life: their numbers and populations.
     Deposits(&'static [(u64, u64)]),
     Kinded(Kind, &'static str),
     Counted(u64),
-    /// The census of this number, of generation 0 of the deposit of the same number under that limit: whether it is steady,
-    /// and the one code of its two clusters.
+    /// The census with this number, whether it is steady, and the code of its two clusters. It counts generation 0; its
+    /// deposit and its limit have the same number.
     Census(u64, bool, &'static str),
     Csv(&'static str),
     Total(u64),
-    /// Refused for another reason than a bad pattern: the number of the reason.
+    /// Refused with this number, other than for a bad pattern.
     Refused(u8),
-    /// Refused as a bad pattern: the number of its fault.
+    /// Refused as a bad pattern, with this number of its fault.
     BadPattern(u8),
 }
 
@@ -202,7 +202,7 @@ fn are_lines(list: &[Listed], lines: &[(u64, u64)]) -> bool {
     true
 }
 
-/// Whether a tally is that of two clusters of one code.
+/// Whether a tally has exactly two clusters, both with this code.
 fn is_of_two(tally: &Tally, code: &str) -> bool {
     let rows = tally.rows.as_slice();
     tally.unresolved == 0
@@ -210,7 +210,7 @@ fn is_of_two(tally: &Tally, code: &str) -> bool {
         && matches!(rows, [row] if row.code.as_bytes() == code.as_bytes() && row.count == 2)
 }
 
-/// Whether a census has this number, which is that of its deposit and its limit too, this flag, and two clusters of this code.
+/// Whether a census has this number, as its deposit and its limit do, this flag, and two clusters with this code.
 fn is_census(shown: &Shown, number: u64, steady: bool, code: &str) -> bool {
     shown.census == number
         && shown.deposit == number
@@ -220,7 +220,7 @@ fn is_census(shown: &Shown, number: u64, steady: bool, code: &str) -> bool {
         && is_of_two(&shown.tally, code)
 }
 
-/// Whether a refusal is that of a bad pattern with this fault.
+/// Whether a refusal is of a bad pattern, with this number of its fault.
 fn is_bad_pattern(refusal: &Refusal, number: u8) -> bool {
     match refusal {
         Refusal::BadPattern(fault) => fault.number() == number,
@@ -256,9 +256,9 @@ fn says(reply: &Reply, said: Said) -> bool {
     }
 }
 
-/// A row of a table: what an archive does.
+/// A row of a table: an expected act of an archive.
 pub trait Example: Copy {
-    /// Whether the archive does that.
+    /// Makes the archive act, and returns whether it did as expected.
     fn holds<S: Alter>(self, alloc: Global, archive: &mut Archive<S>) -> bool;
 }
 
@@ -271,7 +271,7 @@ impl Example for Row {
     }
 }
 
-/// The first row that an archive does differently, row by row.
+/// The index of the first row that the archive does not do as expected.
 pub fn other<S: Alter, E: Example>(
     alloc: Global,
     archive: &mut Archive<S>,
@@ -285,7 +285,7 @@ pub fn other<S: Alter, E: Example>(
     None
 }
 
-/// The first row that a new archive of capacity 2 in memory does differently.
+/// The same for a new archive of capacity 2 in memory.
 pub fn other_in_memory<E: Example>(alloc: Global, rows: &[E]) -> Option<usize> {
     match Archive::open_in_memory(alloc, 2) {
         Ok(mut archive) => other(alloc, &mut archive, rows),
@@ -316,7 +316,7 @@ fn requests(alloc: Global, rows: &[Row]) -> Result<Vec<Request>, Unavailable> {
     Ok(requests)
 }
 
-/// The first row that these replies answer differently.
+/// The index of the first row whose reply differs.
 fn other_reply(replies: &[Reply], rows: &[Row]) -> Option<usize> {
     if replies.len() != rows.len() {
         return Some(rows.len());
@@ -329,7 +329,7 @@ fn other_reply(replies: &[Reply], rows: &[Row]) -> Option<usize> {
     None
 }
 
-/// The replies of an archive to requests as one list.
+/// The archive's replies to requests that are sent as one list.
 fn replies<S: Alter>(
     alloc: Global,
     archive: &mut Archive<S>,
@@ -344,7 +344,7 @@ fn replies<S: Alter>(
     }
 }
 
-/// The first row that an archive answers differently, with all rows as one list.
+/// The index of the first row whose reply differs, if all requests are sent as one list.
 fn other_as_a_list<S: Alter>(
     alloc: Global,
     archive: &mut Archive<S>,
@@ -364,7 +364,7 @@ enum List<'a> {
     Many,
 }
 
-/// The first row that an archive answers differently.
+/// The index of the first request whose reply differs.
 fn otherwise<S: Alter>(alloc: Global, archive: &mut Archive<S>, list: List<'_>) -> Option<usize> {
     match list {
         List::Rows(rows) => other_as_a_list(alloc, archive, rows),
@@ -372,7 +372,7 @@ fn otherwise<S: Alter>(alloc: Global, archive: &mut Archive<S>, list: List<'_>) 
     }
 }
 
-/// The first row that a new archive in memory answers differently.
+/// The same for a new archive in memory.
 fn in_memory(alloc: Global, capacity: u64, list: List<'_>) -> Option<usize> {
     match Archive::open_in_memory(alloc, capacity) {
         Ok(mut archive) => otherwise(alloc, &mut archive, list),
@@ -386,7 +386,7 @@ fn the_laws_are_called() {
     law_of_the_archive();
 }
 
-/// The first row that is answered differently, one by one and as one list.
+/// The index of the first row whose reply differs, one by one and as one list.
 fn others(alloc: Global, rows: &[Row]) -> (Option<usize>, Option<usize>) {
     let one_by_one = other_in_memory(alloc, rows);
     (one_by_one, in_memory(alloc, 2, List::Rows(rows)))
@@ -429,7 +429,7 @@ fn many(alloc: Global) -> Result<Vec<Request>, Unavailable> {
     Ok(requests)
 }
 
-/// Whether the numbers of these lines are this one and those that follow it.
+/// Whether these lines have consecutive numbers, from this one on.
 fn are_numbered(lines: &[Listed], first: u64) -> bool {
     for at in 0..lines.len() {
         if lines[at].id != first.saturating_add(at as u64) {
@@ -439,7 +439,7 @@ fn are_numbered(lines: &[Listed], first: u64) -> bool {
     true
 }
 
-/// Whether the reply in this place is a list of this many deposits, numbered from this number on.
+/// Whether the reply at this index is a list of this many deposits, with consecutive numbers from this one on.
 fn has_list(replies: &[Reply], at: usize, many: usize, first: u64) -> bool {
     match replies.get(at) {
         Some(Reply::Deposits(list)) => {
@@ -450,7 +450,7 @@ fn has_list(replies: &[Reply], at: usize, many: usize, first: u64) -> bool {
     }
 }
 
-/// Whether the reply in this place is that the deposit has this number.
+/// Whether the reply at this index gives the deposit this number.
 fn has_number(replies: &[Reply], at: usize, number: u64) -> bool {
     match replies.get(at) {
         Some(reply) => says(reply, Said::Deposited(number)),
@@ -458,7 +458,8 @@ fn has_number(replies: &[Reply], at: usize, number: u64) -> bool {
     }
 }
 
-/// The first wrong reply to `many`.
+/// The index of the first wrong reply to `many`. A list has at most 100 lines, so the last deposit is in the second
+/// list.
 fn other_in_many(replies: &[Reply]) -> Option<usize> {
     for at in 0..101usize {
         if !has_number(replies, at, at as u64 + 1) {

@@ -1,11 +1,11 @@
-//! Sessions over files in memory: an archive is opened over them, serves connections, and is dropped; and then again, over
-//! what a stop at any call on a file left.
+//! Sessions over files in memory: an archive is opened over them, serves connections, and is dropped. Later sessions
+//! use the files as a stop at any call left them.
 ghost use Rattle.std.specs.Prelude.{◌≡◌, ◌∷◌, ℕ, List, IfSome};
 ghost use Rattle.life_rle.specs.Stream.{incremented};
 ghost use Rattle.life_archive.specs.Session.{ServesOne};
 ghost use Rattle.archive_tests.specs.Sessions.{sends, streams_from};
 
-use crate::archive_file_tests::{Stoppable, Stopping, blank, stands};
+use crate::archive_file_tests::{Stoppable, Stopping, blank, survives_each_stop};
 use crate::stops::again;
 use life_archive::{ArchiveStop, Connections, run_serve, serve_files};
 use life_rle::{MemoryOutlet, SliceInlet};
@@ -14,15 +14,15 @@ use sqlite::{Alter, Files};
 use sqlite_disk::Disk;
 use std::alloc::Global;
 
-/// One more than this many failures, if there is a number for it.
+/// One more failure, up to the greatest `u64`.
 fn one_more(failures: u64) -> u64
     ensures { result ≡ incremented failures }
 {
     failures.saturating_add(1)
 }
 
-/// Serves one connection on which these bytes come. Returns how many connections have failed, given how many had failed
-/// before.
+/// Serves one connection that sends these bytes. Returns how many connections have failed by then, given how many had
+/// failed before.
 fn serve_sent<S: Alter>(
     alloc: Global,
     archive: &mut Archive<S>,
@@ -38,7 +38,7 @@ fn serve_sent<S: Alter>(
     }
 }
 
-/// The stream with this index, if there is one, and the next index.
+/// The stream at this index, if any, and the next index.
 fn stream_at<'a>(sent: &'a [&'a [u8]], index: usize) -> Option<(&'a [u8], usize)>
     ensures { IfSome result (λ found. streams_from index sent.now ≡ found.0.now ∷ streams_from found.1 sent.now) }
 {
@@ -48,18 +48,18 @@ fn stream_at<'a>(sent: &'a [&'a [u8]], index: usize) -> Option<(&'a [u8], usize)
     }
 }
 
-/// Peers that send these bytes, one after the other, and what was put to each.
+/// Peers that send these bytes in turn, and the replies that each received.
 #[derive(Drop)]
 struct Peers<'a> {
     sent: &'a [&'a [u8]],
-    /// The index of the next.
+    /// The index of the next peer.
     next: usize,
     put: Vec<MemoryOutlet>,
     failures: u64,
 }
 
 impl Connections for Peers<'_> {
-    // The bytes that each sends are known. The test compares the replies, since recording them may run out of memory.
+    // Only the sent bytes are known. Recording the replies may run out of memory, so no clause mentions them.
     ghost traffic = { λ s. sends (streams_from s.next s.sent.now) s.failures };
 
     fn listen(&mut self) -> Result<(), ArchiveStop> {
@@ -81,7 +81,7 @@ impl Connections for Peers<'_> {
     }
 }
 
-/// What the replies of a session say: how many acknowledge a deposit, and how many deposits the last of them lists.
+/// A summary of a session's replies: how many acknowledge a deposit, and how many deposits the last reply lists.
 #[derive(Clone, Copy)]
 struct Replies {
     acknowledged: usize,
@@ -99,7 +99,7 @@ fn count_of(bytes: &[u8], text: &[u8]) -> usize {
     count
 }
 
-/// What the replies of a session say.
+/// Summarizes the replies of a session.
 fn seen(put: &[MemoryOutlet]) -> Replies {
     let mut acknowledged = 0_usize;
     let mut listed = 0;
@@ -115,7 +115,7 @@ fn seen(put: &[MemoryOutlet]) -> Replies {
     }
 }
 
-/// A session over files of any kind: what its replies say, and its files.
+/// A session over files of any type. Returns the summary of its replies, and the files.
 fn session_over<D: Disk + Drop>(
     alloc: Global,
     files: Files<D>,
@@ -150,13 +150,13 @@ const BLOCK: &[u8] =
 
 const LIST: &[u8] = b"GET /deposits/after/0 HTTP/1.1\r\n\r\n";
 
-/// What the first session is sent: two deposits, by a connection each, and a list.
+/// Sent to the first session, each on its own connection: two deposits, and a request for the list.
 const KEEPS: [&[u8]; 3] = [GLIDER, BLOCK, LIST];
 
-/// What the second is sent: the list, as the first left it.
+/// Sent to the second session: a request for the list that the first one left.
 const LISTS: [&[u8]; 1] = [LIST];
 
-/// What the third is sent: the same deposits once more, and the list.
+/// Sent to the third session: the same deposits once more, and a request for the list.
 const KEEPS_AGAIN: [&[u8]; 3] = [GLIDER, BLOCK, LIST];
 
 /// Three sessions; the first is over files that stop.
@@ -164,8 +164,8 @@ const KEEPS_AGAIN: [&[u8]; 3] = [GLIDER, BLOCK, LIST];
 struct Sessions;
 
 impl Stoppable for Sessions {
-    /// Whether the first acknowledged both deposits, after 100 calls or more; and whether the second found all that it acknowledged, and no more than were
-    /// asked for, and what is deposited once more is there once.
+    /// Whether the first session acknowledged both deposits, with a stop after more than 100 calls. And whether the
+    /// second found every acknowledged deposit and at most two, and repeating both deposits stored each only once.
     fn stop_at(self, alloc: Global, log_calls: u64, db_calls: u64) -> Option<(bool, bool)> {
         let (first, files) = session(alloc, blank(alloc, log_calls, db_calls), KEEPS.as_slice());
         let files = again(alloc, &files, u64::MAX, u64::MAX)?;
@@ -181,6 +181,9 @@ impl Stoppable for Sessions {
 
 #[test]
 fn sessions_stand_each_stop(rt: HostRuntime) {
-    assert!(rt; stands(rt.alloc(), Sessions, true), "the log");
-    assert!(rt; stands(rt.alloc(), Sessions, false), "the database");
+    assert!(rt; survives_each_stop(rt.alloc(), Sessions, true), "the log");
+    assert!(rt;
+        survives_each_stop(rt.alloc(), Sessions, false),
+        "the database"
+    );
 }

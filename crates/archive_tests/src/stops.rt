@@ -1,6 +1,6 @@
 //! A stop at each call on a file: while a deposit and a census are stored, and while an archive of schema version 1 is migrated.
 use crate::archive_file_tests::{
-    Outcome, Stoppable, Stopping, blank, made_by, over, schema_of, stands, stopping,
+    Outcome, Stoppable, Stopping, blank, made_by, over, schema_of, stopping, survives_each_stop,
 };
 use crate::requests::{Asked, FIELD, FIELD_SHOWN, Row, Said};
 use life_store::Unavailable;
@@ -24,7 +24,7 @@ const FIRST: [&str; 11] = [
     "INSERT INTO census_rows (census, code, n) VALUES (2, 'xp2_7', 2)",
 ];
 
-/// What a file holds.
+/// A copy of a file's contents, which doesn't stop.
 fn copied(alloc: Global, file: &Stopping) -> Result<Memory, Unavailable> {
     let mut copy = Memory::new(alloc);
     if copy.write_at(0, file.inner().bytes()).is_err() || copy.sync().is_err() {
@@ -33,7 +33,7 @@ fn copied(alloc: Global, file: &Stopping) -> Result<Memory, Unavailable> {
     Ok(copy)
 }
 
-/// What the files hold, in files that stop after this many calls.
+/// Copies of the files, which stop after this many calls.
 pub fn again(
     alloc: Global,
     files: &Files<Stopping>,
@@ -55,8 +55,8 @@ const CENSUS: Row = (Asked::Census("c1", 1, 0, 1), Said::Counted(1));
 
 const SHOWN: Row = (Asked::ShowCensus(1), Said::Census(1, true, "xs4_33"));
 
-/// What a new archive answers after a deposit and a census. If the census was not answered, the first row is left out; if the deposit was
-/// not answered either, the first two. In each case both are sent again, and are there once and whole.
+/// The replies of a new archive after a deposit and a census. If the census got no reply, the first row is left out; if
+/// the deposit got none either, the first two. In each case both requests are sent again, and each is stored once.
 const KEPT: [Row; 8] = [
     SHOWN,
     (Asked::Show(1), Said::File(FIELD_SHOWN)),
@@ -68,8 +68,8 @@ const KEPT: [Row; 8] = [
     (Asked::ShowCensus(2), Said::Refused(2)),
 ];
 
-/// What an archive of schema version 1 answers once it is migrated: its deposits and censuses are there with their flags, and
-/// nothing else.
+/// The replies of an archive of schema version 1 after its migration: it has the same deposits and censuses, with
+/// flags.
 const CARRIED: [Row; 6] = [
     (Asked::ListAfter(0), Said::Deposits(&[(1, 8), (2, 6)])),
     (Asked::Show(1), Said::File(FIELD_SHOWN)),
@@ -79,39 +79,35 @@ const CARRIED: [Row; 6] = [
     (Asked::ShowCensus(3), Said::Refused(2)),
 ];
 
-/// A run that is stopped.
+/// Requests to an archive whose files stop.
 #[derive(Clone, Copy)]
 struct Run {
-    /// Whether an archive of schema version 1 is migrated as it is opened; or else it is a new one.
-    carries_over: bool,
-    /// What is asked.
+    /// Whether the archive has schema version 1, so that opening migrates it. Otherwise it is a new one.
+    migrates: bool,
+    /// The requests before the stop, and their replies.
     asked: &'static [Row],
-    /// The answers afterwards, without one of the first rows for each row that was asked but not answered.
-    behind: &'static [Row],
+    /// The requests after the stop, and their replies. For each request without a reply, one of the first rows is left
+    /// out.
+    stored_after: &'static [Row],
 }
 
 /// A deposit and a census in a new archive.
 const KEEPING: Run = Run {
-    carries_over: false,
+    migrates: false,
     asked: &[DEPOSIT, CENSUS],
-    behind: &KEPT,
+    stored_after: &KEPT,
 };
 
 /// The opening of an archive of schema version 1.
 const CARRYING: Run = Run {
-    carries_over: true,
+    migrates: true,
     asked: &[],
-    behind: &CARRIED,
+    stored_after: &CARRIED,
 };
 
 /// The files that a run begins with, which stop after this many calls.
-fn begun(
-    alloc: Global,
-    carries_over: bool,
-    log_calls: u64,
-    db_calls: u64,
-) -> Option<Files<Stopping>> {
-    if !carries_over {
+fn begun(alloc: Global, migrates: bool, log_calls: u64, db_calls: u64) -> Option<Files<Stopping>> {
+    if !migrates {
         return Some(blank(alloc, log_calls, db_calls));
     }
     match made_by(alloc, FIRST.as_slice()) {
@@ -120,7 +116,7 @@ fn begun(
     }
 }
 
-/// How many of the rows that were asked were not answered.
+/// How many requests got no reply before the stop.
 fn unanswered(asked: usize, outcome: Outcome) -> usize {
     match outcome {
         Ok(None) => 0,
@@ -129,13 +125,13 @@ fn unanswered(asked: usize, outcome: Outcome) -> usize {
     }
 }
 
-/// The answers after a run with this result.
+/// The rows that have to hold after a run with this result.
 fn rows_behind(run: Run, outcome: Outcome) -> &'static [Row] {
-    let from = unanswered(run.asked.len(), outcome).min(run.behind.len());
-    &run.behind[from..]
+    let from = unanswered(run.asked.len(), outcome).min(run.stored_after.len());
+    &run.stored_after[from..]
 }
 
-/// The files of an archive that answers the rows.
+/// The files after an archive gave the expected replies to the rows; `None` if it did not.
 fn answers(alloc: Global, files: Files<Stopping>, rows: &[Row]) -> Option<Files<Stopping>> {
     match over(alloc, files, 2, rows) {
         (Ok(None), files) => Some(files),
@@ -143,7 +139,7 @@ fn answers(alloc: Global, files: Files<Stopping>, rows: &[Row]) -> Option<Files<
     }
 }
 
-/// Whether an archive that is opened over the files answers the rows, and once more when it is closed and opened again.
+/// Whether an archive over the files gives the expected replies, and gives them again after it is closed and opened.
 fn answers_twice(alloc: Global, files: Files<Stopping>, rows: &[Row]) -> bool {
     match answers(alloc, files, rows) {
         Some(files) => answers(alloc, files, rows).is_some(),
@@ -151,7 +147,7 @@ fn answers_twice(alloc: Global, files: Files<Stopping>, rows: &[Row]) -> bool {
     }
 }
 
-/// Whether what the files hold, in files that never stop, is an archive that answers the rows.
+/// Whether a copy of the files that never stops is an archive with the expected replies.
 fn is_sound(alloc: Global, files: &Files<Stopping>, rows: &[Row]) -> bool {
     match again(alloc, files, u64::MAX, u64::MAX) {
         Some(copy) => answers_twice(alloc, copy, rows),
@@ -159,8 +155,8 @@ fn is_sound(alloc: Global, files: &Files<Stopping>, rows: &[Row]) -> bool {
     }
 }
 
-/// Whether the files hold version 1 without a table of flags, or version 2 with the flags of both censuses. Another opening of the
-/// archive has not migrated them yet.
+/// Whether the files have version 1 without a table of flags, or version 2 with the flags of both censuses. They are
+/// checked before another opening could migrate them.
 fn is_one_version(alloc: Global, files: &Files<Stopping>) -> bool {
     match again(alloc, files, u64::MAX, u64::MAX) {
         Some(copy) => matches!(schema_of(alloc, copy), (Some(1), None) | (Some(2), Some(2))),
@@ -170,9 +166,9 @@ fn is_one_version(alloc: Global, files: &Files<Stopping>) -> bool {
 
 impl Stoppable for Run {
     fn stop_at(self, alloc: Global, log_calls: u64, db_calls: u64) -> Option<(bool, bool)> {
-        let files = begun(alloc, self.carries_over, log_calls, db_calls)?;
+        let files = begun(alloc, self.migrates, log_calls, db_calls)?;
         let (outcome, files) = over(alloc, files, 2, self.asked);
-        let is_whole = !self.carries_over || is_one_version(alloc, &files);
+        let is_whole = !self.migrates || is_one_version(alloc, &files);
         let is_sound = is_sound(alloc, &files, rows_behind(self, outcome));
         Some((outcome == Ok(None), is_whole && is_sound))
     }
@@ -180,12 +176,18 @@ impl Stoppable for Run {
 
 #[test]
 fn a_stop_loses_nothing(rt: HostRuntime) {
-    assert!(rt; stands(rt.alloc(), KEEPING, true), "the log");
-    assert!(rt; stands(rt.alloc(), KEEPING, false), "the database");
+    assert!(rt; survives_each_stop(rt.alloc(), KEEPING, true), "the log");
+    assert!(rt;
+        survives_each_stop(rt.alloc(), KEEPING, false),
+        "the database"
+    );
 }
 
 #[test]
 fn a_stop_leaves_layout_1_or_2(rt: HostRuntime) {
-    assert!(rt; stands(rt.alloc(), CARRYING, true), "the log");
-    assert!(rt; stands(rt.alloc(), CARRYING, false), "the database");
+    assert!(rt; survives_each_stop(rt.alloc(), CARRYING, true), "the log");
+    assert!(rt;
+        survives_each_stop(rt.alloc(), CARRYING, false),
+        "the database"
+    );
 }

@@ -1,4 +1,4 @@
--- One job over the files of a path after the other.
+-- Two jobs in turn over the files of a path.
 use Rattle.std.proofs.Common.{◌≡◌, ℕ, inl, inr, List, [], ◌∷◌, Result, Ok, Err, IsTrue, refl, sym, subst}
 use Rattle.std.proofs.Math.Logic.{∥∥₁_map}
 use Rattle.sqlite_disk.specs.declared.Disk as disk
@@ -9,7 +9,7 @@ use Rattle.sqlite_store.specs.FileStore.{recovers}
 use Rattle.sqlite.specs.Files.{HoldsDatabase, over_files}
 use Rattle.sqlite_store.specs.declared.store.FileStore.{FileStore}
 use Rattle.life_store.specs.Recoverable.{IsHonest, Recoverable}
-use Rattle.life_store.specs.Opening.{AreLetGo}
+use Rattle.life_store.specs.Opening.{AreReleased}
 use Rattle.life_store.specs.Tables.{ArchiveView}
 use Rattle.life_desk.specs.declared.request.Request.{Request}
 use Rattle.life_desk.specs.declared.request.Reply.{Reply}
@@ -124,15 +124,15 @@ path_jobs_over_crashes g h migrated image again capacity next mid left one two c
 
 -- ---- after a close that was refused
 
-job_let_go : {D : Type 0} (g : disk.Ghosts D) (image : Image) (capacity : ℕ) (mid : Files D)
-    (job : PathJob g image capacity (Err mid)) → AreLetGo (last_of job).store mid
-job_let_go g image capacity mid (by_session it) = it.let_go
-job_let_go g image capacity mid (by_deposit it) = it.let_go
+job_released : {D : Type 0} (g : disk.Ghosts D) (image : Image) (capacity : ℕ) (mid : Files D)
+    (job : PathJob g image capacity (Err mid)) → AreReleased (last_of job).store mid
+job_released g image capacity mid (by_session it) = it.released
+job_released g image capacity mid (by_deposit it) = it.released
 
 pub path_jobs_over_refusals : {D E : Type 0} (g : disk.Ghosts D) (h : disk.Ghosts E) → MigratedIsTheSame
     → PathJobsComposeOverRefusals g h
 path_jobs_over_refusals g h migrated image again capacity next mid left one two clean up may A fits begins =
-    let gone = job_let_go g image capacity mid one in
+    let gone = job_released g image capacity mid one in
     elim (gone.left clean up) [
       | inl allowed ↦
           inl (path_jobs_over_crashes g h migrated image again capacity next (Err mid) left one two

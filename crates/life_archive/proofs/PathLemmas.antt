@@ -1,4 +1,4 @@
--- What is left of files that were closed after a session, or after a deposit.
+-- The contents of files that were closed after a session or a deposit.
 use Rattle.std.proofs.Common.{◌≡◌, ℕ, List, Option, Result, Ok, Err, IsTrue, option_map, refl, sym, subst, inl, inr}
 use Rattle.std.specs.Prelude.{IfErr}
 use Rattle.sqlite_disk.specs.declared.Disk as disk
@@ -10,7 +10,7 @@ use Rattle.sqlite.specs.Files.{image_of, over_files}
 use Rattle.life_store.specs.Kept.{Kept}
 use Rattle.life_store.specs.declared.store_fault.OpenFault.{OpenFault}
 use Rattle.life_store.specs.declared.store_fault.OpenFault.TheVariants.{NotOurs}
-use Rattle.life_store.specs.Opening.{FilesHold, LeftHold, AreLetGo, AreRefusedAs, without_log}
+use Rattle.life_store.specs.Opening.{FilesHold, LeftHold, AreReleased, AreRefusedAs, without_log}
 use Rattle.life_store.specs.Tables.{ArchiveView, Holds}
 use Rattle.life_desk.specs.declared.request.Request.TheVariants as requests
 use Rattle.life_desk.specs.Archive.{Archive}
@@ -93,7 +93,7 @@ pub ends_deposit : {D : Type 0} (g : disk.Ghosts D) (a last : ArchiveView (FileS
     → IsSettled over_files a → IsDepositSafe over_files a last member token known before after answer
     → ((deposits : Deposits over_files a last member token known before after answer) (image : Image) (capacity : ℕ)
     → OpensAs image capacity a → LeavesFrom g image capacity (BecomesByDeposit deposits) left)
-    → IfErr left (AreLetGo last.store) → EndsPathDeposit g a member token known before after answer left
+    → IfErr left (AreReleased last.store) → EndsPathDeposit g a member token known before after answer left
 ends_deposit {D} g a last member token known before after answer left settled (inl unasked) leaves gone = record {
   last = last;
   deposits = inl unasked;
@@ -101,10 +101,10 @@ ends_deposit {D} g a last member token known before after answer left settled (i
       subst (λ (t : ArchiveView (FileStore D g)). IsDurable over_files t) (sym unasked.1)
       (λ B healthy mean found may. settled healthy (kept_of B) (holds_of a B mean) found may);
   leaves = leaves (inl unasked);
-  let_go = gone;
+  released = gone;
 }
 ends_deposit g a last member token known before after answer left settled (inr safe) leaves gone =
-    record { last = last; deposits = inr safe.0; crash = safe.1; leaves = leaves (inr safe.0); let_go = gone }
+    record { last = last; deposits = inr safe.0; crash = safe.1; leaves = leaves (inr safe.0); released = gone }
 
 -- a deposit over what was opened
 pub is_path_deposit : {D : Type 0} {g : disk.Ghosts D} (a : ArchiveView (FileStore D g)) (image : Image) (capacity : ℕ)
@@ -120,7 +120,7 @@ is_path_deposit a image capacity member token known before after answer left ope
       deposits = it.deposits;
       crash = it.crash;
       leaves = it.leaves image capacity opens;
-      let_go = it.let_go;
+      released = it.released;
     }
 
 -- a session over what was opened, with connections that were the same before it was listened to them
@@ -135,7 +135,7 @@ is_path_session {g = g} a image capacity count x y z left same opens ended =
       opens = opens;
       serves = it.serves;
       leaves = it.leaves image capacity opens;
-      let_go = it.let_go;
+      released = it.released;
     }
 
 -- why an opening was refused
@@ -150,4 +150,4 @@ pub unlistened : {D : Type 0} {g : disk.Ghosts D} (a : ArchiveView (FileStore D 
     (capacity : ℕ) (left : Result (Files D) (Files D)) → OpensAs image capacity a → ClosesUnasked g a left
     → IsUnlistened g image capacity left
 unlistened a image capacity left opens it =
-    record { opened = a; opens = opens; leaves = it.leaves image capacity opens; let_go = it.let_go }
+    record { opened = a; opens = opens; leaves = it.leaves image capacity opens; released = it.released }

@@ -1,4 +1,4 @@
--- Messages of several connections, and what a session leaves of files.
+-- The messages of several connections, and the files after a session.
 use Rattle.std.proofs.Common.{◌≡◌, inl, inr, ℕ, ◌+◌, false, List, [], ◌∷◌, ◌++◌, length, None, Result, Ok, Err, is_ok}
 use Rattle.std.proofs.Common.{refl, sym, ◌∙◌, ap, ap₂, subst, subst₂, append-nil}
 use Rattle.std.proofs.lemmas.List.{append_assoc, length-append}
@@ -43,7 +43,7 @@ use Rattle.life_pages.proofs.FirmReplies.{firm_run}
 use Rattle.life_archive.specs.Session.{Exchange, messages_of, replies_of, Traffic, unknown, failures_after, Carries}
 use Rattle.life_archive.specs.Session.{CarriesAll, ServesOne, ServesSome, Runs, ServesConnections, FilesRepresent}
 use Rattle.life_archive.specs.Session.{FilesMean, Leaves, IsSession, EndsSession, under, either, SessionsCompose}
-use Rattle.life_archive.specs.Session.{LeavesAfter, GoesOn, SessionsComposeOverCrashes}
+use Rattle.life_archive.specs.Session.{LeavesAfter, Continues, SessionsComposeOverCrashes}
 
 -- ---- one connection
 
@@ -322,7 +322,7 @@ sessions_over_crashes {D} {E} g h files again capacity next count more w x y z m
 
     goes_on : (mid : Result (Files D) (Files D)) (one : IsSession g files capacity count w x mid)
         → AreClean g (either mid).log (either mid).db → outcomes g (either mid).log (either mid).db (image_of h again)
-        → GoesOn A (messages_of one.exchanges) (replies_of one.exchanges) (LeavesAfter h two) mid
+        → Continues A (messages_of one.exchanges) (replies_of one.exchanges) (LeavesAfter h two) mid
     goes_on (Ok mid) one clean may =
         let done = one.leaves A fits begins clean in (done.0, done.1, second done.0 (done.2 (image_of h again) may))
     goes_on (Err mid) one clean may =

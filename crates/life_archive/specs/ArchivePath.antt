@@ -1,4 +1,4 @@
--- What the program does with an archive in the file of a path: it opens it, does its job and closes it.
+-- The jobs of the program over an archive in the file at a path: it opens the archive, does one job and closes it.
 use Rattle.std.specs.Prelude.{◌≡◌, ◌⊎◌, ◌∷◌, ◌++◌, [], ℕ, List, Option, None, Some, option_map, Result, Ok, Err, IfErr}
 use Rattle.std.specs.Prelude.{IsTrue, ⊤}
 use Rattle.std.proofs.Common.{inl, inr}
@@ -20,7 +20,7 @@ use Rattle.life_store.specs.declared.store_fault.OpenFault.{OpenFault}
 use Rattle.life_store.specs.declared.store_fault.OpenFault.TheVariants as faults
 use Rattle.life_store.specs.Migration.{Migrated}
 use Rattle.life_store.specs.Kept.{Kept}
-use Rattle.life_store.specs.Opening.{FilesHold, FilesHoldFirst, ListNothing, AreLetGo, AreRefusedAs, HaveFailedSince}
+use Rattle.life_store.specs.Opening.{FilesHold, FilesHoldFirst, ListNothing, AreReleased, AreRefusedAs, HaveFailedSince}
 use Rattle.life_store.specs.Opening.{nothing_kept, without_log}
 use Rattle.life_store.specs.Recoverable.{IsHonest}
 use Rattle.life_store.specs.Tables.{ArchiveView, Holds, IsHealthyIfClean}
@@ -44,13 +44,13 @@ abbrev pub opening_stop : OpenFault → ArchiveStop
 opening_stop faults.NotOurs = NotOurs
 opening_stop fault = Job Unavailable
 
--- What comes of the files of a path: they were closed; or a close or an opening was refused, and they were let go; or
--- they were never opened.
+-- The files of a path after a job: Ok if they were closed, Err if the opening or the close was refused, None if they
+-- were never opened.
 abbrev pub PathFiles : Type 0 → Type 0
 PathFiles D = Option (Result (Files D) (Files D))
 
--- The opening was refused, for this reason. As another's it is refused only if the files hold no archive of a known
--- layout, unless the disk has returned other than what was written.
+-- The opening was refused, for this reason. `NotOurs` means that the files hold no archive of a known layout, unless
+-- the disk has returned something other than what was written.
 pub record IsUnopened {D : Type 0} (g : disk.Ghosts D) (image : Image) (stop : ArchiveStop)
     (left : PathFiles D) : Type 0 where
   pub fault : OpenFault
@@ -59,8 +59,8 @@ pub record IsUnopened {D : Type 0} (g : disk.Ghosts D) (image : Image) (stop : A
   pub left_is : left ≡ option_map Err refused
   pub anothers : fault ≡ faults.NotOurs → AreRefusedAs g image refused
 
--- The archive is what files of this image are opened as: what they hold, or nothing if they list no table; healthy,
--- unless the disk has returned other than what was written.
+-- Opening files of this image gives this archive: the one in the files, migrated if necessary, or an empty one if they
+-- list no table. It is healthy, unless the disk has returned something other than what was written.
 pub record OpensAs {D : Type 0} {g : disk.Ghosts D} (image : Image) (most : ℕ)
     (a : ArchiveView (FileStore D g)) : Type 0 where
   pub capacity : a.capacity ≡ most
@@ -69,31 +69,31 @@ pub record OpensAs {D : Type 0} {g : disk.Ghosts D} (image : Image) (most : ℕ)
   pub migrated : (k : Kept) → IsTrue a.tables.is_healthy → FilesHoldFirst image k → Migrated a.tables k
   pub fresh : IsTrue a.tables.is_healthy → ListNothing image → Holds a.tables nothing_kept
 
--- the line that is printed for an answer
+-- the line on standard error after a job's result, if any
 abbrev pub line_after : Result (Unit {0}) ArchiveStop → Option (List ℕ)
 line_after (Ok done) = None
 line_after (Err stop) = Some (line_of stop)
 
 -- ---- what is left
 
--- What is left of an archive that was closed: files that mean an archive of which P holds: as they read, after a crash,
--- and the database file alone. What is left by a close that was refused is said of the store (`AreLetGo`).
+-- After a close, the files represent an archive for which P holds. So does each image that a crash may leave of them,
+-- and the database file without its log. After a refused close, `AreReleased` says what is left.
 abbrev pub LeavesOne : {D : Type 0} → disk.Ghosts D → (Archive → Type 0) → Result (Files D) (Files D) → Type 0
 LeavesOne g P (Ok files) = AreClean g files.log files.db
     → (B : Archive) × P B × ((image : Image) → outcomes g files.log files.db image → FilesRepresent image B)
     × FilesRepresent (without_log (image_of g files)) B
 LeavesOne g P (Err files) = ⊤
 
--- the same of files that were opened at this image, under this capacity, by what becomes of the archive that they began
--- with
+-- the same for files that were opened at this image and under this capacity; P relates the archive that they began with
+-- to the one that is left
 abbrev pub LeavesFrom : {D : Type 0} → disk.Ghosts D → Image → ℕ → (Archive → Archive → Type 0)
     → Result (Files D) (Files D) → Type 0
 LeavesFrom g image capacity P left = (A : Archive) → A.capacity ≡ capacity → FilesMean image A → LeavesOne g (P A) left
 
 -- ---- a deposit
 
--- what a crash leaves, by what was asked: the archive as it was; or so, or with the deposit, and with it if its number
--- was put
+-- A crash leaves the archive unchanged if it got no request. Otherwise it leaves the archive unchanged or with the
+-- deposit, and with it if the number was written.
 abbrev pub IsSafeIfAsked : {S : Type 0} {g : Ghosts S} {old new : ArchiveView S} {member token : List ℕ}
     {known before after : Option (List ℕ)} {answer : Result (Unit {0}) ArchiveStop}
     → Deposits g old new member token known before after answer → Type 0
@@ -101,8 +101,8 @@ IsSafeIfAsked {g = g} {new = new} (inl unasked) = IsDurable g new
 IsSafeIfAsked {g = g} {old = old} {new = new} {member = member} {token = token} (inr once) =
     IsCrashSafe g old new (requests.Deposit member token once.file ∷ []) (once.reply ∷ [])
 
--- What becomes of an archive, by what was asked: it stays as it is; or it takes the one step of a run, with the reply
--- that was put: the deposit is added, was there already, or is refused.
+-- How the job changes an archive. Without a request it stays as it is. Otherwise it makes one step of a run with this
+-- reply: the deposit is added, was stored already, or is refused.
 abbrev pub BecomesByDeposit : {S : Type 0} {g : Ghosts S} {old new : ArchiveView S} {member token : List ℕ}
     {known before after : Option (List ℕ)} {answer : Result (Unit {0}) ArchiveStop}
     → Deposits g old new member token known before after answer → Archive → Archive → Type 0
@@ -110,9 +110,8 @@ BecomesByDeposit (inl unasked) A B = B ≡ A
 BecomesByDeposit {member = member} {token = token} (inr once) A B =
     RequestStep A (requests.Deposit member token once.file) once.reply B
 
--- A deposit over the files of a path: they were opened as an archive, which was asked once to keep what came in, or not
--- at all, and were closed. What was asked of the archive, what a crash during it leaves, and what it leaves at its end,
--- are of one request.
+-- A deposit over the files of a path: they were opened as an archive, which got one request with the file from the
+-- input, or no request, and were closed. All these facts are about the same request.
 pub record IsPathDeposit {D : Type 0} (g : disk.Ghosts D) (image : Image) (capacity : ℕ)
     (member token : List ℕ) (known before after : Option (List ℕ)) (answer : Result (Unit {0}) ArchiveStop)
     (left : Result (Files D) (Files D)) : Type 0 where
@@ -122,9 +121,9 @@ pub record IsPathDeposit {D : Type 0} (g : disk.Ghosts D) (image : Image) (capac
   pub deposits : Deposits over_files opened last member token known before after answer
   pub crash : IsSafeIfAsked deposits
   pub leaves : LeavesFrom g image capacity (BecomesByDeposit deposits) left
-  pub let_go : IfErr left (AreLetGo last.store)
+  pub released : IfErr left (AreReleased last.store)
 
--- The same of an archive that is open, whatever it was opened from.
+-- The same for an open archive, whatever it was opened from.
 pub record EndsPathDeposit {D : Type 0} (g : disk.Ghosts D) (a : ArchiveView (FileStore D g))
     (member token : List ℕ) (known before after : Option (List ℕ)) (answer : Result (Unit {0}) ArchiveStop)
     (left : Result (Files D) (Files D)) : Type 0 where
@@ -133,10 +132,10 @@ pub record EndsPathDeposit {D : Type 0} (g : disk.Ghosts D) (a : ArchiveView (Fi
   pub crash : IsSafeIfAsked deposits
   pub leaves : (image : Image) (capacity : ℕ) → OpensAs image capacity a
       → LeavesFrom g image capacity (BecomesByDeposit deposits) left
-  pub let_go : IfErr left (AreLetGo last.store)
+  pub released : IfErr left (AreReleased last.store)
 
--- The opening was refused, nothing was taken and nothing was put; or the archive that the files were opened as was
--- asked to keep what came in.
+-- The opening was refused, before any input was read or output written, or the deposit was made over the opened
+-- archive.
 abbrev pub DepositsAt : {D I : Type 0} → disk.Ghosts D → Image → ℕ → List ℕ → List ℕ → I → I → Option (List ℕ)
     → Option (List ℕ) → Option (List ℕ) → Result (Unit {0}) ArchiveStop → PathFiles D → Type 0
 DepositsAt {D} g image capacity member token input rest known before after answer left =
@@ -146,30 +145,29 @@ DepositsAt {D} g image capacity member token input rest known before after answe
 
 -- ---- a session
 
--- Nobody could be listened to: the files were opened as an archive, which was closed as it was.
+-- The program could not listen: the files were opened as an archive, which was closed unchanged.
 pub record IsUnlistened {D : Type 0} (g : disk.Ghosts D) (image : Image) (capacity : ℕ)
     (left : Result (Files D) (Files D)) : Type 0 where
   pub opened : ArchiveView (FileStore D g)
   pub opens : OpensAs image capacity opened
   pub leaves : LeavesFrom g image capacity (λ A B. B ≡ A) left
-  pub let_go : IfErr left (AreLetGo opened.store)
+  pub released : IfErr left (AreReleased opened.store)
 
--- The same of an archive that is open, whatever it was opened from.
+-- The same for an open archive, whatever it was opened from.
 pub record ClosesUnasked {D : Type 0} (g : disk.Ghosts D) (a : ArchiveView (FileStore D g))
     (left : Result (Files D) (Files D)) : Type 0 where
   pub leaves : (image : Image) (capacity : ℕ) → OpensAs image capacity a
       → LeavesFrom g image capacity (λ A B. B ≡ A) left
-  pub let_go : IfErr left (AreLetGo a.store)
+  pub released : IfErr left (AreReleased a.store)
 
--- why nobody is served, and what comes of the files: the opening was refused, or nobody can be listened to
+-- why no connection is served, and the files after it: the opening was refused, or the program can't listen
 abbrev pub IsUnserved : {D : Type 0} → disk.Ghosts D → Image → ℕ → ArchiveStop → PathFiles D → Type 0
 IsUnserved {D} g image capacity stop left =
     IsUnopened g image stop left ⊎ (CannotListen stop
     × ((closed : Result (Files D) (Files D)) × (left ≡ Some closed) × IsUnlistened g image capacity closed))
 
 -- A session over the files of a path: they were opened as an archive, which served this many connections, and were
--- closed. What serving did to the archive, what a crash during it leaves, and what it leaves at its end, are of one
--- list of connections.
+-- closed. All these facts are about the same list of connections.
 pub record IsPathSession {D : Type 0} (g : disk.Ghosts D) (image : Image) (capacity count : ℕ)
     (before after : Traffic) (left : Result (Files D) (Files D)) : Type 0 where
   pub opened : ArchiveView (FileStore D g)
@@ -177,20 +175,20 @@ pub record IsPathSession {D : Type 0} (g : disk.Ghosts D) (image : Image) (capac
   pub opens : OpensAs image capacity opened
   pub serves : ServesConnections over_files count opened last before after
   pub leaves : LeavesFrom g image capacity (Runs (messages_of serves.exchanges) (replies_of serves.exchanges)) left
-  pub let_go : IfErr left (AreLetGo last.store)
+  pub released : IfErr left (AreReleased last.store)
 
--- The same of an archive that is open, whatever it was opened from.
+-- The same for an open archive, whatever it was opened from.
 pub record EndsPathSession {D : Type 0} (g : disk.Ghosts D) (a : ArchiveView (FileStore D g))
     (count : ℕ) (before after : Traffic) (left : Result (Files D) (Files D)) : Type 0 where
   pub last : ArchiveView (FileStore D g)
   pub serves : ServesConnections over_files count a last before after
   pub leaves : (image : Image) (capacity : ℕ) → OpensAs image capacity a
       → LeavesFrom g image capacity (Runs (messages_of serves.exchanges) (replies_of serves.exchanges)) left
-  pub let_go : IfErr left (AreLetGo last.store)
+  pub released : IfErr left (AreReleased last.store)
 
 -- ---- one job after the other
 
--- a job over the files of a path, whichever it was
+-- a job over the files of a path: a session or a deposit
 pub data PathJob {D : Type 0} (g : disk.Ghosts D) (image : Image) (capacity : ℕ)
     (left : Result (Files D) (Files D)) : Type 0 where
   by_session : {count : ℕ} {before after : Traffic} → IsPathSession g image capacity count before after left
@@ -199,16 +197,15 @@ pub data PathJob {D : Type 0} (g : disk.Ghosts D) (image : Image) (capacity : �
       → IsPathDeposit g image capacity member token known before after answer left
       → PathJob g image capacity left
 
--- what becomes of an archive by it: a run over the messages of its connections, or the one deposit
+-- how a job changes an archive: by a run over the messages of its connections, or by the one deposit
 abbrev pub BecomesBy : {D : Type 0} {g : disk.Ghosts D} {image : Image} {capacity : ℕ}
     {left : Result (Files D) (Files D)} → PathJob g image capacity left → Archive → Archive → Type 0
 BecomesBy (by_session it) A B = Runs (messages_of it.serves.exchanges) (replies_of it.serves.exchanges) A B
 BecomesBy (by_deposit it) A B = BecomesByDeposit it.deposits A B
 
--- A job comes after one whose files were closed, in any order of serving and depositing, maybe on another disk: it
--- opens the files that the first left, or what a crash left of them, or the database file alone. If the disk of the
--- first was honest, an archive that the files meant at first becomes B by the first job, and what the second leaves it
--- leaves of B, under its own capacity.
+-- Two jobs in turn, sessions or deposits, possibly on two disks. The first closed its files. The second opens them,
+-- what a crash left of them, or only the database file. If the disk of the first was honest, the first job takes the
+-- archive in the files to some B, and the second begins with B, under its own capacity.
 abbrev pub PathJobsCompose : {D E : Type 0} → disk.Ghosts D → disk.Ghosts E → Type 0
 PathJobsCompose {D} {E} g h =
     (image again : Image) (capacity next : ℕ) (mid : Files D) (left : Result (Files E) (Files E))
@@ -225,12 +222,12 @@ abbrev pub last_of : {D : Type 0} {g : disk.Ghosts D} {image : Image} {capacity 
 last_of (by_session it) = it.last
 last_of (by_deposit it) = it.last
 
--- The image holds a database that the store allows: so each image does that a crash leaves at this moment.
+-- The image holds a database that the store allows, as each image does that a crash leaves at this moment.
 abbrev pub MayBeFound : {D : Type 0} {g : disk.Ghosts D} → FileStore D g → Image → Type 0
 MayBeFound store image = ∥ ((db : Trees) × recovers store db × HoldsDatabase image db) ∥₁
 
--- What is left means the archive after the first requests of a run from A, or after the one that follows as well; and
--- no reply but those to the first says that something is kept.
+-- What remains is the archive after a prefix of these requests in a run from A, or after the next one too. Only replies
+-- to that prefix say that something is stored.
 pub record IsLeftOfRun (A : Archive) (qs : List Request) (rs : List Reply) (Remains : Archive → Type 0) : Type 0 where
   pub front : List Request
   pub back : List Request
@@ -243,7 +240,7 @@ pub record IsLeftOfRun (A : Archive) (qs : List Request) (rs : List Reply) (Rema
   pub left : Remains mid ⊎ ((next : Request) × (more : List Request) × (back ≡ next ∷ more) × Remains (after mid next))
   pub unpromised : AcknowledgeNothing rest
 
--- what is left of a deposit that a crash cut off, by what was asked
+-- the archive after a crash during a deposit, with or without a request
 abbrev pub IsLeftIfAsked : {S : Type 0} {g : Ghosts S} {old new : ArchiveView S} {member token : List ℕ}
     {known before after : Option (List ℕ)} {answer : Result (Unit {0}) ArchiveStop}
     → Deposits g old new member token known before after answer → Archive → (Archive → Type 0) → Type 0
@@ -251,16 +248,16 @@ IsLeftIfAsked (inl unasked) A Remains = Remains A
 IsLeftIfAsked {member = member} {token = token} (inr once) A Remains =
     IsLeftOfRun A (requests.Deposit member token once.file ∷ []) (once.reply ∷ []) Remains
 
--- what is left of a job that a crash cut off
+-- the archive after a crash during a job
 abbrev pub IsLeftBy : {D : Type 0} {g : disk.Ghosts D} {image : Image} {capacity : ℕ}
     {left : Result (Files D) (Files D)} → PathJob g image capacity left → Archive → (Archive → Type 0) → Type 0
 IsLeftBy (by_session it) A Remains =
     IsLeftOf A (messages_of it.serves.exchanges) (replies_of it.serves.exchanges) Remains
 IsLeftBy (by_deposit it) A Remains = IsLeftIfAsked it.deposits A Remains
 
--- A crash cut a job off before its files were closed, and another job opens what it left. If the disk of the first was
--- honest, the second begins with the archive after a prefix of what the first was asked, or after the one request that
--- follows as well, and every deposit and census that was acknowledged is in it.
+-- A crash interrupted a job before its files were closed, and another job opens what the crash left. If the disk of the
+-- first was honest, the second begins with the archive after a prefix of the first one's requests, or after one more.
+-- Every acknowledged deposit and census is in it.
 abbrev pub PathJobsComposeOverCrashes : {D E : Type 0} → disk.Ghosts D → disk.Ghosts E → Type 0
 PathJobsComposeOverCrashes {D} {E} g h =
     (image again : Image) (capacity next : ℕ) (mid : Result (Files D) (Files D)) (left : Result (Files E) (Files E))
@@ -269,9 +266,9 @@ PathJobsComposeOverCrashes {D} {E} g h =
     → A.capacity ≡ capacity → FilesMean image A
     → ∥ IsLeftBy one A (λ B. LeavesOne h (BecomesBy two (under next B)) left) ∥₁
 
--- A close that was refused ended a job, and another job opens an image that its files then hold, or that a crash leaves
--- of them. If the disk of the first was honest, the second begins as after a crash; unless a call of the disk failed in
--- that close, or a limit of the format was met.
+-- A job ended with a refused close, and another job opens its files, or what a crash left of them. If the disk of the
+-- first was honest, the second begins as after a crash, unless a call of the disk failed in that close or a limit of
+-- the format was reached.
 abbrev pub PathJobsComposeOverRefusals : {D E : Type 0} → disk.Ghosts D → disk.Ghosts E → Type 0
 PathJobsComposeOverRefusals {D} {E} g h =
     (image again : Image) (capacity next : ℕ) (mid : Files D) (left : Result (Files E) (Files E))
@@ -281,10 +278,9 @@ PathJobsComposeOverRefusals {D} {E} g h =
     → ∥ IsLeftBy one A (λ B. LeavesOne h (BecomesBy two (under next B)) left) ∥₁
     ⊎ HaveFailedSince (last_of one).store mid
 
--- ---- what the program prints
+-- ---- the output of the program
 
--- A deposit, with the line that is printed if it stops: what it does to the archive and what it leaves of it, and what
--- it does with its streams.
+-- A deposit: its effect on the archive, its files and its streams, and the line that is printed if it stops.
 pub record AnswersDeposit {D I O : Type 0} (g : disk.Ghosts D) (i : inlet.Ghosts I) (o : outlet.Ghosts O)
     (image : Image) (capacity : ℕ) (member token : List ℕ) (input rest : I) (output sent : O)
     (line : Option (List ℕ)) : Type 0 where
@@ -297,8 +293,8 @@ pub record AnswersDeposit {D I O : Type 0} (g : disk.Ghosts D) (i : inlet.Ghosts
   pub once : PutsOnce output sent (o.failures output) (o.failures sent) (o.last_failed sent) (by_streams answer)
   pub printed : line ≡ line_after answer
 
--- A session with connections whose bytes are unknown, or the line of its stop. How many connections were not served to
--- their end is counted.
+-- A session with connections whose bytes are unknown, or the line of its stop. Only the number of failed connections is
+-- known.
 abbrev pub AnswersServing : {D : Type 0} → disk.Ghosts D → Image → ℕ → ℕ → Option (List ℕ) → Type 0
 AnswersServing {D} g image capacity count line =
     ((failures : ℕ) × (left : Result (Files D) (Files D))

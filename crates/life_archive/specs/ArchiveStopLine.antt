@@ -1,4 +1,4 @@
--- The lines that a job over an archive prints on standard error, each without its line end. They are the program's own.
+-- The lines that a job over an archive prints on standard error, each without its line end.
 use Rattle.std.specs.Prelude.{ℕ, List, codes}
 use Rattle.life_desk.specs.Refusals as refusals
 use Rattle.life_jobs.specs.JobStop as jobs

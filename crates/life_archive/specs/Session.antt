@@ -1,5 +1,5 @@
--- Sessions: an archive serves connections, one after the other; over files, it is opened before them and let go after
--- them.
+-- Sessions: an archive serves connections in turn. Over files, it is opened before them, and the files are returned
+-- after them.
 use Rattle.std.specs.Prelude.{◌≡◌, ◌⊎◌, ◌++◌, ◌∷◌, ℕ, Bool, true, false, List, [], length, Option, None, Some, Result}
 use Rattle.std.specs.Prelude.{Ok, Err, IsTrue, ⊤}
 use Rattle.sqlite_disk.specs.declared.Disk as disk
@@ -26,9 +26,9 @@ use Rattle.life_archive.specs.declared.archive_stop.ArchiveStop.TheVariants.{Job
 
 -- ---- connections
 
--- One connection that was served: all that it sent, if that is known; the first messages of it, which were answered;
--- what was put of their replies, and the rest of them; and whether it was served to its end: then all its messages were
--- answered, and nothing is left of the replies.
+-- One served connection: the bytes that it sent, if known; its first messages, which were answered; the written part of
+-- their replies, and the rest. `ended` means that it was served to its end: all its messages were answered, and all
+-- replies were written.
 pub record Exchange : Type 0 where
   pub sent : Option (List ℕ)
   pub messages : List Message
@@ -38,72 +38,72 @@ pub record Exchange : Type 0 where
   pub first : AreFirstOfStream sent messages
   pub whole : IsTrue ended → AreAllOf sent messages × (rest ≡ [])
 
--- the messages of all of them, connection after connection
+-- the messages of all connections in turn
 abbrev pub messages_of : List Exchange → List Message
 messages_of [] = []
 messages_of (e ∷ es) = e.messages ++ messages_of es
 
--- and the replies to these
+-- and their replies, with the parts that were not written
 abbrev pub replies_of : List Exchange → List ℕ
 replies_of [] = []
 replies_of (e ∷ es) = (e.put ++ e.rest) ++ replies_of es
 
--- What is known of connections: what each of those to come will send, what was put to each that was served, and how
--- many were not served to their end.
+-- The known facts about connections: the bytes that each future one will send, the bytes written to each served one,
+-- and how many failed. A connection fails if it was not served to its end.
 pub record Traffic : Type 0 where
   pub to_come : Option (List (List ℕ))
   pub put : Option (List (List ℕ))
   pub failures : ℕ
 
--- nobody can be listened to: the port is not free, the line that names it could not be put, or memory ran out
+-- the program can't listen: the port is not free, the line that names it could not be written, or memory ran out
 abbrev pub CannotListen : ArchiveStop → Type 0
 CannotListen NoPort = ⊤
 CannotListen (Job Unwritable) = ⊤
 CannotListen (Job Unavailable) = ⊤
 CannotListen stop = ⊥
 
--- if only the failures are known
+-- only the number of failures is known
 abbrev pub unknown : ℕ → Traffic
 unknown n = record { to_come = None; put = None; failures = n }
 
--- if it is known what they send, the next sends this; or none came, and nothing was sent
+-- If the future connections are known, this is the next one, or none came: it sent nothing and counts as failed.
 abbrev pub ComesNext : Option (List (List ℕ)) → Option (List (List ℕ)) → Exchange → Type 0
 ComesNext None new e = ⊤
 ComesNext (Some old) None e = ⊥
 ComesNext (Some old) (Some new) e =
     (sent : List ℕ) × (e.sent ≡ Some sent) × ((old ≡ sent ∷ new) ⊎ ((sent ≡ []) × (e.ended ≡ false) × (new ≡ old)))
 
--- if it is known what was put to each, this was put to one more
+-- if the written bytes are known, these were written to one more connection
 abbrev pub TellsOne : Option (List (List ℕ)) → Option (List (List ℕ)) → List ℕ → Type 0
 TellsOne None new put = ⊤
 TellsOne (Some old) None put = ⊥
 TellsOne (Some old) (Some new) put = new ≡ old ++ put ∷ []
 
--- the failures after one that was served to its end, or was not
+-- the number of failures after one more connection, which was served to its end or not
 abbrev pub failures_after : Bool → ℕ → ℕ
 failures_after true n = n
 failures_after false n = incremented n
 
--- one connection was the next
+-- this connection was the next
 abbrev pub Carries : Traffic → Traffic → Exchange → Type 0
 Carries old new e =
     ComesNext old.to_come new.to_come e × TellsOne old.put new.put e.put
     × (new.failures ≡ failures_after e.ended old.failures)
 
--- these were the next, one after the other
+-- these connections were the next, in turn
 abbrev pub CarriesAll : Traffic → Traffic → List Exchange → Type 0
 CarriesAll old new [] = new ≡ old
 CarriesAll old new (e ∷ es) = (mid : Traffic) × Carries old mid e × CarriesAll mid new es
 
 -- ---- serving
 
--- the store answered the messages of the next connection, one after the other
+-- the store answered the messages of the next connection in turn
 abbrev pub ServesOne : {S : Type 0} → Ghosts S → ArchiveView S → ArchiveView S → Traffic → Traffic → Type 0
 ServesOne g old new before after =
     (e : Exchange) × MessageRun (AnswersMessage (StoreAnswers g)) old e.messages (e.put ++ e.rest) new
     × Carries before after e
 
--- those of the next connections, this many
+-- the store answered the messages of the next `count` connections in turn
 pub record ServesSome {S : Type 0} (g : Ghosts S) (count : ℕ) (old new : ArchiveView S)
     (before after : Traffic) : Type 0 where
   pub exchanges : List Exchange
@@ -111,14 +111,14 @@ pub record ServesSome {S : Type 0} (g : Ghosts S) (count : ℕ) (old new : Archi
   pub carried : CarriesAll before after exchanges
   pub run : MessageRun (AnswersMessage (StoreAnswers g)) old (messages_of exchanges) (replies_of exchanges) new
 
--- A answers these messages by these bytes, one after the other, and is B then.
+-- A run over these messages leads from A to B, and its replies are these bytes.
 abbrev pub Runs : List Message → List ℕ → Archive → Archive → Type 0
 Runs ms bytes A B = MessageRun (AnswersMessage RequestStep) A ms bytes B
 
--- What serving this many connections does to a database: each archive that it represented went through a run over the
--- messages of all of them; a request that is refused for its own words is answered by that refusal, whatever the
--- database does; and a crash during the call leaves the archive after a prefix of the messages, or after the one that
--- follows as well, after which no reply says that something is kept.
+-- The effect of serving this many connections on a database. Each archive that it represented went through a run over
+-- all their messages. A request whose own fields are invalid gets that refusal, whatever the database does. A crash
+-- during the call leaves the archive after a prefix of the messages, or after one more, and only replies to that prefix
+-- say that something is stored.
 pub record ServesConnections {S : Type 0} (g : Ghosts S) (count : ℕ) (old new : ArchiveView S)
     (before after : Traffic) : Type 0 where
   pub exchanges : List Exchange
@@ -132,21 +132,21 @@ pub record ServesConnections {S : Type 0} (g : Ghosts S) (count : ℕ) (old new 
 
 -- ---- over files
 
--- The files represent the archive, whatever its capacity is: that is chosen where they are opened.
+-- The files represent the archive, with any capacity: the opening chooses it.
 abbrev pub FilesRepresent : Image → Archive → Type 0
 FilesRepresent image A = EachHasDeposit A.deposits A.censuses × FilesHold image (kept_of A)
 
--- The files represent the archive; or list no table, as new files do, and the archive is empty; or represent it by
--- schema version 1, in which there are no flags, so that an opening migrates it.
+-- Opening the files gives the archive. They represent it, or list no table like new files, for an empty archive, or
+-- represent it in schema version 1, which an opening migrates.
 abbrev pub FilesMean : Image → Archive → Type 0
 FilesMean image A =
     FilesRepresent image A ⊎ ((ListNothing image × (A.deposits ≡ []) × (A.censuses ≡ []))
     ⊎ (EachHasDeposit A.deposits A.censuses × FilesHoldFirst image (kept_of A)))
 
--- What a session that began with A leaves, over these messages and replies. After Ok the files represent the archive
--- after all: as they read and after a crash. After Err, as if the disk failed on the way or the session was cut off,
--- each image that may be left means the archive after a prefix of the messages, or after the one that follows as well,
--- and no other reply says that something is kept.
+-- The files after a session that began with A, with these messages and replies. After Ok they represent the archive
+-- after all messages, now and after a crash. After Err, for example if the disk failed, each image that may be left
+-- represents the archive after a prefix of the messages, or after one more. Only replies to that prefix say that
+-- something is stored.
 abbrev pub Leaves : {D : Type 0} → disk.Ghosts D → Archive → List Message → List ℕ → Result (Files D) (Files D) → Type 0
 Leaves g A ms bytes (Ok files) =
     AreClean g files.log files.db → (B : Archive) × Runs ms bytes A B
@@ -155,7 +155,7 @@ Leaves g A ms bytes (Err files) =
     AreClean g files.log files.db → (image : Image) → outcomes g files.log files.db image
     → ∥ IsLeftOf A ms bytes (FilesRepresent image) ∥₁
 
--- the files of either answer
+-- the files in an Ok or an Err
 abbrev pub either : {X : Type 0} → Result X X → X
 either (Ok x) = x
 either (Err x) = x
@@ -164,12 +164,12 @@ either (Err x) = x
 abbrev pub AreUsable : {D : Type 0} → disk.Ghosts D → Files D → Type 0
 AreUsable g files = IsTrue (g.is_usable files.log) × IsTrue (g.is_usable files.db)
 
--- A session over files: what they represented was taken over the messages of this many connections; to each connection
--- a prefix of its replies was put, and all of them if it was served to its end. So the next session may begin with what
--- it leaves, and if the disk was honest to the end of that, it was in this.
+-- A session over files: their archive went through a run over the messages of this many connections. Each connection
+-- got a prefix of its replies, and all of them if it was served to its end. The next session may begin with the files
+-- that this one leaves. If the disk is honest to the end of the next session, it was honest in this one.
 --
--- What a crash during the session leaves is read off the side of Err (docs/DEFINITIONS.md, "Crash"): what the peers had
--- then is a prefix of what was put by the end of that run, since each put only adds.
+-- The Err case also covers a crash during the session (docs/DEFINITIONS.md, "Crash"). The bytes that peers had received
+-- by then are a prefix of the bytes written in that run, since output is only appended.
 pub record IsSession {D : Type 0} (g : disk.Ghosts D) (files : Files D) (capacity count : ℕ)
     (before after : Traffic) (left : Result (Files D) (Files D)) : Type 0 where
   pub exchanges : List Exchange
@@ -180,7 +180,7 @@ pub record IsSession {D : Type 0} (g : disk.Ghosts D) (files : Files D) (capacit
   pub leaves : (A : Archive) → A.capacity ≡ capacity → FilesMean (image_of g files) A
       → Leaves g A (messages_of exchanges) (replies_of exchanges) left
 
--- The same of an archive that is open.
+-- The same for an archive that is open.
 pub record EndsSession {D : Type 0} (g : disk.Ghosts D) (archive : ArchiveView (FileStore D g))
     (count : ℕ) (before after : Traffic) (left : Result (Files D) (Files D)) : Type 0 where
   pub exchanges : List Exchange
@@ -198,9 +198,8 @@ pub record EndsSession {D : Type 0} (g : disk.Ghosts D) (archive : ArchiveView (
 abbrev pub under : ℕ → Archive → Archive
 under capacity A = record { deposits = A.deposits; censuses = A.censuses; capacity = capacity }
 
--- After a session that was answered Ok comes another, over the files that it left. If the disk was honest to the end of
--- that, an archive that the files meant went through a run over the messages of the first, and what the second leaves
--- it leaves of the end of this run.
+-- Two sessions in turn: the first returned Ok, and the second opened its files. If the disk was honest to the end, the
+-- archive in the files went through a run over the messages of the first, and the second began with the result.
 abbrev pub SessionsCompose : {D : Type 0} → disk.Ghosts D → Type 0
 SessionsCompose {D} g =
     (files mid : Files D) (capacity next count more : ℕ) (w x y z : Traffic) (left : Result (Files D) (Files D))
@@ -210,22 +209,21 @@ SessionsCompose {D} g =
     → (B : Archive) × Runs (messages_of one.exchanges) (replies_of one.exchanges) A B
     × Leaves g (under next B) (messages_of two.exchanges) (replies_of two.exchanges) left
 
--- What a session leaves, by the archive that it began with under its own capacity.
+-- The files after a session that began with this archive, under the session's own capacity.
 abbrev pub LeavesAfter : {D : Type 0}
     (g : disk.Ghosts D) {files : Files D} {capacity count : ℕ} {x y : Traffic} {left : Result (Files D) (Files D)}
     → IsSession g files capacity count x y left → Archive → Type 0
 LeavesAfter g {capacity = capacity} {left = left} it A =
     Leaves g (under capacity A) (messages_of it.exchanges) (replies_of it.exchanges) left
 
--- how an archive develops after a session that began with A, by the answer of the session
-abbrev pub GoesOn : {X : Type 0} → Archive → List Message → List ℕ → (Archive → Type 0) → Result X X → Type 0
-GoesOn A ms bytes Next (Ok mid) = (B : Archive) × Runs ms bytes A B × Next B
-GoesOn A ms bytes Next (Err mid) = ∥ IsLeftOf A ms bytes Next ∥₁
+-- `Next` holds for the archive that follows a session: after Ok, the end of its run; after Err, what a crash may leave
+abbrev pub Continues : {X : Type 0} → Archive → List Message → List ℕ → (Archive → Type 0) → Result X X → Type 0
+Continues A ms bytes Next (Ok mid) = (B : Archive) × Runs ms bytes A B × Next B
+Continues A ms bytes Next (Err mid) = ∥ IsLeftOf A ms bytes Next ∥₁
 
--- A crash came after a session, or ended it, and another session opens what the crash left, maybe on another disk. If
--- the first was answered Ok, the second begins with the archive after all its messages. Else it begins with the archive
--- after a prefix of them, or after the one that follows as well, and every deposit and census that was acknowledged is
--- in it.
+-- A crash came after a session or interrupted it, and another session opens what the crash left, possibly on another
+-- disk. If the first returned Ok, the second begins with the archive after all its messages. Otherwise it begins with
+-- the archive after a prefix of them, or after one more, and every acknowledged deposit and census is in it.
 abbrev pub SessionsComposeOverCrashes : {D E : Type 0} → disk.Ghosts D → disk.Ghosts E → Type 0
 SessionsComposeOverCrashes {D} {E} g h =
     (files : Files D) (again : Files E) (capacity next count more : ℕ) (w x y z : Traffic)
@@ -233,4 +231,4 @@ SessionsComposeOverCrashes {D} {E} g h =
     (one : IsSession g files capacity count w x mid) (two : IsSession h again next more y z left)
     → AreClean g (either mid).log (either mid).db → outcomes g (either mid).log (either mid).db (image_of h again)
     → (A : Archive) → A.capacity ≡ capacity → FilesMean (image_of g files) A
-    → GoesOn A (messages_of one.exchanges) (replies_of one.exchanges) (LeavesAfter h two) mid
+    → Continues A (messages_of one.exchanges) (replies_of one.exchanges) (LeavesAfter h two) mid

@@ -1,4 +1,4 @@
-//! The jobs over an archive in the file of a path, as in the program: the archive is opened, asked and closed.
+//! The jobs over an archive in the file at a path, as the program runs them: open the archive, send requests, close it.
 ghost use Rattle.std.specs.Prelude.{◌≡◌, Some, Err, option_map, OnOk, OnErr, IfErr};
 ghost use Rattle.sqlite_wal.specs.Files.{image_at};
 ghost use Rattle.life_jobs.specs.Streams.{TakesFile, PutsOnce};
@@ -16,7 +16,7 @@ use sqlite::{FileFrom, FileStore, Start};
 use sqlite_disk::{Disk, Files};
 use std::alloc::Global;
 
-/// The stop for an archive that can't be opened.
+/// The stop for an archive that can't be opened. Only `NotOurs` has its own line.
 fn opening_stop(fault: OpenFault) -> ArchiveStop
     ensures { result ≡ opening_stop fault }
 {
@@ -26,7 +26,8 @@ fn opening_stop(fault: OpenFault) -> ArchiveStop
     }
 }
 
-/// The files of a path after a job: closed; given up after a refused close or opening; or never opened.
+/// The files of a path after a job: `Ok` if they were closed, `Err` if the opening or the close was refused, and `None`
+/// if they were never opened.
 pub type PathFiles<T> = Option<Result<Files<FileFrom<T>>, Files<FileFrom<T>>>>;
 
 /// The files of a refused opening.
@@ -39,8 +40,8 @@ fn refused<D: Disk>(files: Option<Files<D>>) -> Option<Result<Files<D>, Files<D>
     }
 }
 
-/// Deposits in an archive that is open, and closes it whatever came of it. A refused close is no refusal of the deposit: what was answered is
-/// committed, and the two files have it together then, unless a call of the disk failed in the close.
+/// Deposits in an open archive, and closes it in any case. A refused close doesn't refuse the deposit, which is
+/// committed by then. The two files together hold it, unless a call of the disk failed in the close.
 fn deposit_opened<D: Disk + Drop, I: Inlet, O: Outlet>(
     alloc: Global,
     archive: Archive<FileStore<D>>,
@@ -62,8 +63,9 @@ fn deposit_opened<D: Disk + Drop, I: Inlet, O: Outlet>(
     }
 }
 
-/// Deposits the pattern file that comes in, in the archive of the path, which is made if the file is not there, and closes it, so that the
-/// database file has all. `start` says what the files are taken to hold, as for `Archive::open_path`. The files are given back.
+/// Deposits the pattern file from the input in the archive at the path, creating it if the file doesn't exist. It then
+/// closes the archive, so that the database file is complete without its log. `start` states the assumed contents of
+/// the files, as for `Archive::open_path`. The files are returned.
 pub fn deposit_path<T: Start, I: Inlet, O: Outlet>(
     rt: &HostRuntime,
     path: &str,
@@ -74,11 +76,11 @@ pub fn deposit_path<T: Start, I: Inlet, O: Outlet>(
     input: &mut I,
     output: &mut O,
 ) -> (Result<(), ArchiveStop>, PathFiles<T>)
-    // Files that were closed mean the archive that they were opened as, after the one deposit, or as it was. Why the opening was refused is said too.
-    // No input is read before the archive is open.
+    // Closed files represent the archive that was opened, with the deposit or unchanged. A refused opening has its
+    // reason. No input is read before the archive is open.
     ensures deposits { DepositsAt ⟦<FileFrom<T> as Disk>⟧ (image_at T.Start) capacity member.now token.now input.old input.new (I.to_come input.old) (O.already output.old) (O.already output.new) result.0 result.1 }
     ensures takes { TakesFile (I.to_come input.old) (I.to_come input.new) (I.failures input.old) (I.failures input.new) (I.ends input.old) (I.ends input.new) (I.last_take input.new) (by_streams result.0) }
-    // Nothing is put before a refusal or after a put that failed.
+    // A refusal writes no output, and a failed write is the last one.
     ensures once { PutsOnce output.old output.new (O.failures output.old) (O.failures output.new) (O.last_failed output.new) (by_streams result.0) }
 {
     match Archive::open_path(rt, path, capacity, start) {
@@ -90,7 +92,7 @@ pub fn deposit_path<T: Start, I: Inlet, O: Outlet>(
     }
 }
 
-/// Serves by an archive that is open, and closes it.
+/// Serves requests from an open archive, and then closes it.
 fn serve_opened<D: Disk + Drop, C: Connections>(
     alloc: Global,
     archive: Archive<FileStore<D>>,
@@ -108,7 +110,7 @@ fn serve_opened<D: Disk + Drop, C: Connections>(
     }
 }
 
-/// Closes an archive that got no request.
+/// Closes an archive that got no request, when the program can't listen.
 fn close_unasked<D: Disk + Drop>(archive: Archive<FileStore<D>>) -> Result<Files<D>, Files<D>>
     ensures { ClosesUnasked D.Disk archive result }
 {
@@ -119,9 +121,10 @@ fn close_unasked<D: Disk + Drop>(archive: Archive<FileStore<D>>) -> Result<Files
     }
 }
 
-/// A session over the files of a path, as [`crate::serve_files`] over files that are given: opens the archive, which is made if the file is not
-/// there, serves this many connections, one after the other, and closes it, so that the database file has all. The files are given back. If
-/// the close is refused and no call of the disk failed in it, what was answered is in the two files together.
+/// A session over the files of a path, like [`crate::serve_files`] for open files. Opens the archive, creating it if
+/// the file doesn't exist, serves this many connections in turn, and closes it, so that the database file is complete
+/// without its log. The files are returned. If the close is refused, the two files together hold everything that was
+/// acknowledged, unless a call of the disk failed in the close.
 pub fn serve_path<T: Start, C: Connections>(
     rt: &HostRuntime,
     path: &str,
@@ -150,8 +153,9 @@ pub fn serve_path<T: Start, C: Connections>(
     }
 }
 
-/// A job over the files of a path begins with what the one before it left, whether it serves or deposits: as it left the files when it closed
-/// them, as a crash left them after that, as a crash left them before, or as a refused close let them go. A law: calling it does nothing.
+/// A job over the files of a path, serving or depositing, begins with the archive that the job before it left. That job
+/// closed the files, or its close was refused, or a crash came before or after the close. A law: calling it does
+/// nothing.
 pub fn law_of_path_jobs<D: Disk, E: Disk>()
     ensures composed { PathJobsCompose D.Disk E.Disk }
     ensures crashed { PathJobsComposeOverCrashes D.Disk E.Disk }

@@ -9,7 +9,7 @@ use life_pages::IoFault;
 /// Why a job over an archive stopped.
 #[derive(Clone, Copy, Debug, PartialEq, Eq)]
 pub enum ArchiveStop {
-    /// A stop that a job without an archive may have too.
+    /// A stop that jobs without an archive have too.
     Job(Stop),
     /// The archive refused the request.
     Desk(Refusal),

@@ -1,4 +1,4 @@
-//! Depositing the pattern file on the input.
+//! Depositing the pattern file from the input.
 ghost use Rattle.std.specs.Prelude.{◌≡◌, ◌≢◌, ◌∷◌, [], IfOk, IsTrue, OnOk, OnErr, Err};
 ghost use Rattle.std.specs.Fmt.{decimal};
 ghost use Rattle.life_rle.specs.Stream.{FailsLast, Appends, AppendsSome};
@@ -21,10 +21,10 @@ use life_store::Archive;
 use sqlite::Alter;
 use std::alloc::{AllocError, Global};
 
-/// One more byte than a file may have.
+/// One byte more than a file may have, so that the archive sees and refuses a file that is too long.
 const MOST_TAKEN: usize = 1_048_577;
 
-/// The bytes of the input, to its end or to one more than a file may have.
+/// Reads the input to its end, or up to one byte more than a file may have.
 fn take_file<I: Inlet>(alloc: Global, input: &mut I) -> Result<Vec<u8>, ArchiveStop>
     ensures taken { IfOk result (λ file. IsFileTaken (I.to_come input.old) file.items) }
     ensures unasked { OnErr result (IsUnasked result) }
@@ -47,7 +47,7 @@ fn take_file<I: Inlet>(alloc: Global, input: &mut I) -> Result<Vec<u8>, ArchiveS
     Ok(file)
 }
 
-/// The deposit that is asked for.
+/// The request for the deposit. The file is moved; the member and the token are copied.
 fn deposit_request(
     alloc: Global,
     member: &str,
@@ -63,7 +63,7 @@ fn deposit_request(
     })
 }
 
-/// The stop for a refusal of the archive.
+/// The stop for a refusal of the archive. Two refusals have a line that jobs without an archive share.
 fn desk_stop(refusal: Refusal) -> ArchiveStop
     ensures { result ≡ desk_stop refusal }
 {
@@ -84,7 +84,7 @@ fn put_decimal<O: Outlet>(output: &mut O, n: u64) -> Result<(), Failed>
     put_all(output, Buffer::new().format(n).as_bytes())
 }
 
-/// Writes the line of a deposit, without an allocation.
+/// Writes the line of a deposit. It needs no allocation, so running out of memory can't hide a stored deposit.
 fn put_number<O: Outlet>(output: &mut O, id: u64) -> Result<(), Failed>
     ensures all { OnOk result (Appends (O.already output.old) (O.already output.new) (deposit_line id)) }
     ensures some { OnErr result (AppendsSome (O.already output.old) (O.already output.new) (deposit_line id)) }
@@ -121,15 +121,15 @@ fn put_reply<O: Outlet>(output: &mut O, reply: Reply) -> Result<(), ArchiveStop>
     }
 }
 
-/// What the archive replies to the request.
+/// The archive's reply to the request. A separate function, with only the clause that a deposit needs.
 fn reply_of<S: Alter>(alloc: Global, archive: &mut Archive<S>, request: Request) -> Reply
     ensures { Answered S.Store archive.old archive.new (request ∷ []) (result ∷ []) }
 {
     answer(archive, alloc, request)
 }
 
-/// Takes a file to its end and deposits it under the member and the token; puts the number of the
-/// deposit as one line.
+/// Reads a file to its end, deposits it under the member and the token, and writes the number of the deposit as one
+/// line.
 pub fn run_deposit<S: Alter, I: Inlet, O: Outlet>(
     alloc: Global,
     archive: &mut Archive<S>,
@@ -138,13 +138,14 @@ pub fn run_deposit<S: Alter, I: Inlet, O: Outlet>(
     input: &mut I,
     output: &mut O,
 ) -> Result<(), ArchiveStop>
-    // The archive is as it was, or was asked once, and its answer is known: if it was asked, it was for the file that came in.
+    // The archive is unchanged, or it got one request, with the file from the input, and its reply decides the result.
     ensures deposits { Deposits S.Store archive.old archive.new member.now token.now (I.to_come input.old) (O.already output.old) (O.already output.new) result }
-    // A crash during the call leaves the archive unchanged or with the deposit; with it, if its number was put.
+    // A crash during the call leaves the archive unchanged or with the deposit. If the number was written, it has the
+    // deposit.
     ensures crash { IsDepositSafe S.Store archive.old archive.new member.now token.now (I.to_come input.old) (O.already output.old) (O.already output.new) result }
     ensures takes { TakesFile (I.to_come input.old) (I.to_come input.new) (I.failures input.old) (I.failures input.new) (I.ends input.old) (I.ends input.new) (I.last_take input.new) (by_streams result) }
     ensures once { PutsOnce output.old output.new (O.failures output.old) (O.failures output.new) (O.last_failed output.new) (by_streams result) }
-    // The law of crashes too, so that a caller passes on the traits of its store once.
+    // Includes the law of crashes, so that callers pass on the traits of the store only once.
     ensures law { IsTrue archive.old.tables.is_healthy → (k : Kept) → Holds archive.old.tables k → (db : Trees) → S.Store.recovers archive.old.store db → TreesHold db k }
 {
     archive.law_of_crashes();

@@ -1,4 +1,4 @@
-//! The jobs of `life` over an archive, on any streams, and why they stop.
+//! The jobs of `life` over an archive, `serve` and `deposit`, on any streams, and the reasons why they stop.
 #![tactic(auto)]
 
 mod archive_path;

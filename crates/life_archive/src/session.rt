@@ -1,4 +1,4 @@
-//! Sessions: connections, one after the other, and archives in files that are opened for them.
+//! Sessions: an archive serves connections in turn; over files, it is opened for them.
 ghost use Rattle.std.specs.Prelude.{◌≡◌, ◌≢◌, ◌↔◌, false, IsTrue, IfOk, IfErr, OnErr, OnOk};
 ghost use Rattle.sqlite_wal.specs.Reads.{AreClean};
 ghost use Rattle.sqlite.specs.Files.{image_of};
@@ -16,9 +16,9 @@ use sqlite::{Alter, FileStore, Files};
 use sqlite_disk::Disk;
 use std::alloc::Global;
 
-/// Where connections come from.
+/// A source of connections: a port in the program, stored bytes in tests.
 pub trait Connections {
-    // What is known about the connections to come and those that were served.
+    // The known facts about the connections to come and about the served ones.
     ghost traffic: { Self → Traffic };
 
     /// Prepares for the first connection, once the archive is open.
@@ -26,12 +26,13 @@ pub trait Connections {
         ensures traffic { traffic self.new ≡ traffic self.old }
         ensures refused { IfErr result CannotListen };
 
-    /// Waits for the next connection, and answers its messages from the archive, as [`crate::run_serve`] does it, whatever comes of it.
+    /// Waits for the next connection and answers its messages from the archive with [`crate::run_serve`]. A failed
+    /// connection is not an error of the session.
     fn serve_next<S: Alter>(&mut self, alloc: Global, archive: &mut Archive<S>)
         ensures { ServesOne S.Store archive.old archive.new (traffic self.old) (traffic self.new) };
 }
 
-/// Serves this many connections.
+/// Serves this many connections, with clauses only about the store.
 fn serve_each<S: Alter, C: Connections>(
     alloc: Global,
     archive: &mut Archive<S>,
@@ -52,16 +53,17 @@ pub fn serve_connections<S: Alter, C: Connections>(
     connections: &mut C,
     count: u64,
 )
-    // In words of the store: each message of each connection was answered by it, one after the other.
+    // About the store: it answered each message of each connection, one after the other.
     ensures steps { ServesSome S.Store count archive.old archive.new (C.traffic connections.old) (C.traffic connections.new) }
-    // In words of the archive: it went through a run over them, even if the disk failed on the way; and what a crash leaves.
+    // About the archive: it went through a run over them, even if the disk failed during it. Also says what a crash
+    // leaves.
     ensures served { ServesConnections S.Store count archive.old archive.new (C.traffic connections.old) (C.traffic connections.new) }
 {
     archive.law_of_crashes();
     serve_each(alloc, archive, connections, count);
 }
 
-/// The files in an Ok if they may be opened again: no sync of them has failed.
+/// Returns the files as `Ok` if they may be opened again: they may not after a failed sync.
 fn reopenable<D: Disk>(files: Files<D>) -> Result<Files<D>, Files<D>>
     ensures same { either result ≡ files }
     ensures usable { IfOk result (AreUsable D.Disk) }
@@ -75,7 +77,8 @@ fn reopenable<D: Disk>(files: Files<D>) -> Result<Files<D>, Files<D>>
     Ok(files)
 }
 
-/// Serves this many connections, and counts the deposits after them. It is a separate function so that `serve_opened` proves the store's traits once.
+/// Serves this many connections, then counts the deposits, which fails unless the database is healthy. A separate
+/// function, so that `serve_opened` proves the store's traits only once.
 fn serve_and_count<S: Alter, C: Connections>(
     alloc: Global,
     archive: &mut Archive<S>,
@@ -91,7 +94,8 @@ fn serve_and_count<S: Alter, C: Connections>(
     archive.count_deposits()
 }
 
-/// Serves by an archive over files, and lets it go. Ok says that the database was sound to the end, and that the files may be opened again.
+/// Serves from an archive over files, and returns the files without closing it. `Ok` means that the database was
+/// healthy to the end and that the files may be opened again.
 fn serve_opened<D: Disk + Drop, C: Connections>(
     alloc: Global,
     archive: Archive<FileStore<D>>,
@@ -108,11 +112,11 @@ fn serve_opened<D: Disk + Drop, C: Connections>(
     }
 }
 
-/// A session: opens the archive that the files hold, serves this many connections, one after the other, and drops it without copying the log into the file.
-/// What was meant before it is represented after it, as the messages that were served leave it: the next session begins with that.
+/// A session: opens the archive in the files, serves this many connections in turn, and drops it without copying the
+/// log into the database file. The next session begins with the archive as the served messages left it.
 ///
-/// It answers the files in an Ok if the database was sound to the end and tells its count of deposits, and else in an Err. So it does if a crash cut it
-/// off, by the kit's argument on crashes.
+/// The files are in an `Ok` if the database was healthy to the end and could count its deposits, otherwise in an `Err`.
+/// A session that a crash interrupted counts as `Err`, by the kit's argument about crashes.
 pub fn serve_files<D: Disk + Drop, C: Connections>(
     alloc: Global,
     files: Files<D>,
@@ -122,11 +126,11 @@ pub fn serve_files<D: Disk + Drop, C: Connections>(
 ) -> Result<Result<Files<D>, Files<D>>, (OpenFault, Files<D>)>
     requires log { IsTrue (D.Disk.is_usable files.log) }
     requires db { IsTrue (D.Disk.is_usable files.db) }
-    // Files in an Ok may be opened again: each sync of them went well.
+    // Files in an Ok may be opened again: no sync of them failed.
     ensures usable { IfOk result (λ left. IfOk left (AreUsable D.Disk)) }
     ensures session { IfOk result (IsSession D.Disk files capacity count (C.traffic connections.old) (C.traffic connections.new)) }
-    // If the opening was refused, no client was served; the refusals and the files are those of `Archive::open_files`. What a crash during
-    // an opening leaves is not said.
+    // If the opening was refused, no client was served, and the fault and the files come from `Archive::open_files`.
+    // There is no clause about a crash during an opening.
     ensures unserved { OnErr result (connections.new ≡ connections.old) }
     ensures bad { IfErr result (λ e. (e.0 ≡ OpenFault.BadCapacity) ↔ (is_capacity capacity ≡ false)) }
     ensures back { IfErr result (λ e. e.0 ≡ OpenFault.BadCapacity → e.1 ≡ files) }
@@ -141,7 +145,8 @@ pub fn serve_files<D: Disk + Drop, C: Connections>(
     }
 }
 
-/// A session begins with what the one before it left: as it left the files, or as a crash left them. A law: calling it does nothing.
+/// A session begins with the archive that the session before it, or a crash, left in the files. A law: calling it does
+/// nothing.
 pub fn law_of_sessions<D: Disk, E: Disk>()
     ensures composed { SessionsCompose D.Disk }
     ensures crashed { SessionsComposeOverCrashes D.Disk E.Disk }

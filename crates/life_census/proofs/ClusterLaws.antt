@@ -1,4 +1,4 @@
--- Laws of parts: two that share a cell are one, and a set has one list of them.
+-- Two clusters that share a cell are equal, and a set has only one list of clusters.
 use Rattle.std.specs.Prelude.{◌≡◌, ℕ, true, List, [], ◌∷◌, ◌++◌, length, refl}
 use Rattle.std.proofs.Common.{sym, ap, subst, ◌∙◌, inl, inr, arith}
 use Rattle.std.specs.Ordering.{is_lt}

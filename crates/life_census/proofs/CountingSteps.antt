@@ -1,4 +1,4 @@
--- The tally of one set more.
+-- The tally after one more set.
 use Rattle.std.specs.Prelude.{◌≡◌, ℕ, ◌+◌, ◌<◌, List, [], ◌∷◌, ◌++◌, length, take, count_by, is_none, Option, Some}
 use Rattle.std.specs.Prelude.{None}
 use Rattle.std.proofs.Common.{ap, ◌∙◌, get_or, append-nil}

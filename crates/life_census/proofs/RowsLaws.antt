@@ -1,4 +1,4 @@
--- Rows of texts and counts, at a place among them.
+-- Counting a text in the row at a given place.
 use Rattle.std.specs.Prelude.{◌≡◌, ℕ, zero, suc, ◌+◌, ◌<◌, ◌≤◌, List, [], ◌∷◌, map, length, slice_index_or}
 use Rattle.std.proofs.Common.{sym, ap, subst, ◌∙◌, inl, inr, set, take, drop, arith}
 use Rattle.std.specs.declared.cmp.Ordering.{Ordering}

@@ -1,4 +1,4 @@
--- What the visits of all parts say of the field.
+-- The visits of all clusters decide if the field is steady.
 use Rattle.std.specs.Prelude.{◌≡◌, ◌≢◌, ◌↔◌, ℕ, zero, suc, ◌<◌, Bool, IsTrue, List, [], ◌∷◌, length}
 use Rattle.std.proofs.Common.{sym, ap, subst, ◌∙◌, inl, inr, get_or, arith}
 use Rattle.std.proofs.lemmas.Bool.{cases_lt, true_from_ne_false}

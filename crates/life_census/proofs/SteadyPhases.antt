@@ -1,4 +1,4 @@
--- Clusters that stay in place: what their kinds say, and that their phases repeat.
+-- Clusters that stay in place: the meaning of their kinds, and that their phases repeat.
 use Rattle.std.specs.Prelude.{◌≡◌, ◌≢◌, ℕ, ◌+◌, ◌*◌, ◌%◌, ◌/◌, ◌≤◌, zero, suc, true, false}
 use Rattle.std.proofs.Common.{refl, sym, ap, subst, ◌∙◌, inl, inr, arith}
 use Rattle.std.proofs.lemmas.Bool.{false≢true}

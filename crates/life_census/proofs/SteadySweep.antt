@@ -1,4 +1,4 @@
--- Sorted visits: those that are near each other are met.
+-- In sorted visits, the passes find all pairs that are near each other.
 use Rattle.std.specs.Prelude.{◌≡◌, ◌↔◌, ℕ, ◌+◌, ◌-◌, ◌≤◌, ◌<◌, ℤ, pos, negsuc, ◌+ℤ◌, ◌-ℤ◌, ◌≤ℤ◌, ◌<ℤ◌, Bool, true}
 use Rattle.std.specs.Prelude.{false, IsTrue, ◌&&◌, nat_le, int_le, List, length, refl}
 use Rattle.std.proofs.Common.{sym, ap, subst, ◌∙◌, inl, inr, get_or, take, drop, T, arith}

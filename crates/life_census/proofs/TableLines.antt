@@ -1,4 +1,4 @@
--- The lines of a tally: no field of theirs needs quotes, and they follow one another.
+-- The lines of a tally: none of their fields needs quotes, and the text is their concatenation.
 use Rattle.std.proofs.Common.{◌≡◌, ℕ, ◌+◌, ◌<◌, ◌≤◌, true, false, ◌&&◌, ◌||◌, cond, List, [], ◌∷◌, ◌++◌, length, take}
 use Rattle.std.proofs.Common.{get_or, append_assoc, append-nil, refl, sym, ap, ◌∙◌, Vec, arith, inl, inr}
 use Rattle.std.specs.Prelude.{nat_le, ◌==◌, codes, map}

@@ -1,4 +1,4 @@
--- What makes the definitions of clusters, tallies and steady fields believable.
+-- Laws that show that the definitions of clusters, tallies and steady fields mean what they should.
 use Rattle.std.specs.Prelude.{◌≡◌, ◌≢◌, ◌↔◌, ◌≤◌, ℕ, ◌+◌, true, false, IsTrue, List, Option, map, sum_by}
 use Rattle.std.specs.List.{Contains}
 use Rattle.std.specs.List.Sorted.{IsStrictlySortedBy}
@@ -27,7 +27,7 @@ OneClusterEach =
     (X : Cells) (c : Cell) → set.contains X c ≡ true → (P : Cells) × Contains (clusters_of X) P
     × (set.contains P c ≡ true) × ((Q : Cells) → Contains (clusters_of X) Q → set.contains Q c ≡ true → Q ≡ P)
 
--- The rows of a tally are the codes that some set has, each with its count ..
+-- The rows of a tally are the codes of its sets, each with its count ..
 abbrev pub RowsAreCounts : Type 0
 RowsAreCounts =
     (codes : List (List ℕ)) (code : List ℕ) (n : ℕ)
@@ -38,18 +38,17 @@ abbrev pub RowsAscend : Type 0
 RowsAscend =
     (codes : List (List ℕ)) → IsStrictlySortedBy row_cmp (map (λ (row : List ℕ × ℕ). row.0) (occurrences_of codes))
 
--- The counts of a tally and the unresolved sets add up to the total.
+-- The counts and the unresolved sets add up to the total.
 abbrev pub TalliesAddUp : Type 0
 TalliesAddUp =
     (code : Cells → Option (List ℕ)) (Ps : List Cells) (t : TallyCounts) → IsTally code Ps t
     → sum_by (λ (row : List ℕ × ℕ). row.1) t.rows + t.unresolved ≡ t.total
 
--- The function `is_steady` says exactly whether a field is steady, even with a limit of 0, under which no cluster stays
--- in place.
+-- `is_steady` decides if a field is steady, even with a limit of 0, under which no cluster counts as staying in place.
 abbrev pub SteadyIsDecided : Type 0
 SteadyIsDecided = (r : RuleSets) (X : Cells) (limit : ℕ) → IsTrue (is_steady r X limit) ↔ IsSteady r X limit
 
--- Each generation of a steady field is the union of that generation of its clusters, each run alone ..
+-- Each generation of a steady field is the union of the same generation of its clusters, each evolving by itself ..
 abbrev pub SteadyFieldsEvolveByClusters : Type 0
 SteadyFieldsEvolveByClusters =
     (r : RuleSets) (X : Cells) (limit : ℕ) → set.contains r.birth 0 ≡ false → IsSteady r X limit

@@ -1,4 +1,4 @@
--- The text of a tally, as comma-separated values (RFC 4180, with a header line; lines end in a line feed alone).
+-- A tally as comma-separated values (RFC 4180 with a header, but lines end in a line feed without a carriage return).
 use Rattle.std.specs.Prelude.{ℕ, List, [], ◌∷◌, ◌++◌, codes}
 use Rattle.std.specs.Fmt.{decimal}
 use Rattle.std.specs.List.{flat_map}
@@ -9,7 +9,8 @@ use Rattle.life_census.specs.Rows.{TallyCounts}
 abbrev pub line : List ℕ → ℕ → List ℕ
 line text n = text ++ comma ∷ decimal n ++ line_feed ∷ []
 
--- a header, a line for each code with its count, and a line with how many clusters have no code
+-- a header, a line for each code, and the number of clusters without a code: a block gives the lines `code,count`,
+-- `xs4_33,1` and `unresolved,0`
 abbrev pub lines : List (List ℕ × ℕ) → ℕ → List ℕ
 lines rows unresolved =
     codes "code,count" ++ line_feed ∷ flat_map (λ row. line row.0 row.1) rows ++ line (codes "unresolved") unresolved

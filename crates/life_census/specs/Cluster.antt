@@ -12,16 +12,17 @@ use Rattle.life_code.specs.Apart.{near}
 
 -- ---- what a cluster is
 
--- these cells of X, each near the one before it, lead from c to d
+-- these cells of X lead from c to d, each near the one before it
 abbrev pub IsChain : Cells → Cell → List Cell → Cell → Type 0
 IsChain X c [] d = c ≡ d
 IsChain X c (e ∷ es) d = (set.contains X e ≡ true) × (near c e ≡ true) × IsChain X e es d
 
--- a chain of cells of X leads from c to d
+-- some chain of cells of X leads from c to d
 abbrev pub AreJoined : Cells → Cell → Cell → Type 0
 AreJoined X c d = (es : List Cell) × IsChain X c es d
 
--- P is a cluster of X: it has a cell, chains join all its cells, and no other cell of X is near it
+-- P is a cluster of X: it has a cell, chains join all its cells, and no other cell of X is near it. `3obo` is one
+-- cluster; `3o2bo` has two, since its last cell is 3 columns away from the others.
 pub record IsCluster (X P : Cells) : Type 0 where
   pub inside : (c : Cell) → set.contains P c ≡ true → set.contains X c ≡ true
   pub cell : (c : Cell) × (set.contains P c ≡ true)
@@ -35,12 +36,12 @@ pub record IsCluster (X P : Cells) : Type 0 where
 abbrev pub IsBefore : Cells → Cells → Type 0
 IsBefore P Q = (c : Cell) × (set.contains P c ≡ true) × ((d : Cell) → set.contains Q d ≡ true → cell_cmp c d ≡ Less)
 
--- each set comes before all later ones
+-- the list is sorted in this order
 abbrev pub AreInOrder : List Cells → Type 0
 AreInOrder [] = Unit {0}
 AreInOrder (P ∷ Ps) = AllByRecursion (IsBefore P) Ps × AreInOrder Ps
 
--- a set of the list has the cell
+-- the cell is in some set of the list
 abbrev pub IsCovered : Cell → List Cells → Type 0
 IsCovered c Ps = (P : Cells) × Contains Ps P × (set.contains P c ≡ true)
 
@@ -57,13 +58,13 @@ pub record AreClustersOf (X : Cells) (Ps : List Cells) : Type 0 where
 abbrev pub touches : Cell → Cells → Bool
 touches c P = list_any (near c) (set.items P)
 
--- c and the cells of those sets that have a cell near it
+-- c together with all sets that have a cell near it
 abbrev pub joined_with : Cell → List Cells → Cells
 joined_with c [] = set.insert set.empty c
 joined_with c (P ∷ Ps) = cond (touches c P) (set.union P (joined_with c Ps)) (joined_with c Ps)
 
--- the clusters of the set of a sorted list's cells: those that the first cell is not near stay, and the others become
--- one
+-- adds the cells of a sorted list from the last to the first: each joins the clusters that it is near into one, and
+-- the others stay
 abbrev pub clusters_among : List Cell → List Cells
 clusters_among [] = []
 clusters_among (c ∷ cs) = joined_with c (clusters_among cs) ∷ filter (λ P. not (touches c P)) (clusters_among cs)

@@ -1,14 +1,14 @@
--- The state while clusters are named: a rule and a limit on the period.
+-- The question that a cache of codes answers.
 use Rattle.std.specs.Prelude.{ℕ, refl}
 use Rattle.std.specs.Coded.{Coded, code_by, coded×, coded_ℕ}
 use Rattle.life_core.specs.Rule.{RuleSets, coded_rule}
 
--- the rule and the limit under which codes are given
+-- a rule and a limit on the period
 pub record CodeQuestion : Type 0 where
   pub rule : RuleSets
   pub limit : ℕ
 
--- they are stored as the pair
+-- encodes the record as a pair
 abbrev pub coded_question : Coded CodeQuestion
 coded_question =
     code_by (RuleSets × ℕ) (coded× coded_rule coded_ℕ) (λ a. (a.rule, a.limit))

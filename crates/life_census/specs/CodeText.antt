@@ -1,4 +1,4 @@
--- Texts of codes.
+-- The characters of codes, none of which needs quotes in CSV.
 use Rattle.std.specs.Prelude.{ℕ, Bool, ◌&&◌, ◌||◌, ◌==◌, nat_le}
 use Rattle.life_core.specs.Ascii.{digit_0, digit_9, underscore, letter_a, letter_z}
 

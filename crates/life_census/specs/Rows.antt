@@ -1,4 +1,4 @@
--- The content of a tally.
+-- The contents of a tally.
 use Rattle.std.specs.Prelude.{ℕ, List, refl}
 use Rattle.std.specs.Coded.{Coded, code_by, coded×, coded_ℕ, coded_list}
 use Rattle.life_census.specs.declared.tally_rows.Row.{Row}
@@ -7,13 +7,14 @@ use Rattle.life_census.specs.declared.tally_rows.Row.{Row}
 abbrev pub row_seen : {A : Type 0} → Row A → List ℕ × ℕ
 row_seen r = (r.code, r.count)
 
--- codes with their counts, how many clusters have no code, and how many clusters there are
+-- the counts of a census: codes with their counts, the number of clusters without a code, and the number of all
+-- clusters
 pub record TallyCounts : Type 0 where
   pub rows : List (List ℕ × ℕ)
   pub unresolved : ℕ
   pub total : ℕ
 
--- they are stored as the pairs of their parts
+-- encodes the record as nested pairs
 abbrev pub coded_counts : Coded TallyCounts
 coded_counts =
     code_by (List (List ℕ × ℕ) × (ℕ × ℕ))

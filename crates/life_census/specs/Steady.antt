@@ -17,8 +17,8 @@ use Rattle.life_census.specs.Cluster.{IsCluster, touches, clusters_of}
 unfoldable pub Stays : RuleSets → ℕ → Cells → Type 0
 Stays r limit P = HasKind r P limit Still ⊎ ((p : ℕ) × HasKind r P limit (Oscillator p))
 
--- each cluster of X stays in place, and no phase of a cluster is near a phase of another; the phases of a cluster are
--- its generations when it is alone
+-- Each cluster of X stays in place, and no phase of a cluster is near a phase of another. The phases of a cluster are
+-- its generations without the other clusters.
 pub record IsSteady (r : RuleSets) (X : Cells) (limit : ℕ) : Type 0 where
   pub stay : (P : Cells) → IsCluster X P → Stays r limit P
   pub apart : (P Q : Cells) → IsCluster X P → IsCluster X Q → P ≢ Q → (i j : ℕ)
@@ -26,7 +26,7 @@ pub record IsSteady (r : RuleSets) (X : Cells) (limit : ℕ) : Type 0 where
 
 -- ---- whether a field is steady, as a function
 
--- whether the kind is that of a pattern that stays in place
+-- whether patterns of this kind stay in place
 abbrev pub is_staying : Kind → Bool
 is_staying Empty = false
 is_staying Still = true
@@ -38,7 +38,7 @@ is_staying Unresolved = false
 abbrev pub stays : RuleSets → ℕ → Cells → Bool
 stays r limit P = is_staying (kind_of r P limit)
 
--- whether no cell of Y is near a cell of Z
+-- decides `AreApart`
 abbrev pub are_apart : Cells → Cells → Bool
 are_apart Y Z = not (list_any (λ c. touches c Z) (set.items Y))
 
@@ -50,12 +50,12 @@ first_generations r n P = map (generation_of r P) (range_with_len 0 n)
 abbrev pub keep_apart : RuleSets → ℕ → Cells → Cells → Bool
 keep_apart r n P Q = list_all (λ Y. list_all (are_apart Y) (first_generations r n Q)) (first_generations r n P)
 
--- whether no set comes near a later one
+-- whether the sets keep apart pairwise
 abbrev pub all_keep_apart : RuleSets → ℕ → List Cells → Bool
 all_keep_apart r n [] = true
 all_keep_apart r n (P ∷ Ps) = list_all (keep_apart r n P) Ps && all_keep_apart r n Ps
 
--- whether each cluster of X stays in place, and no two are near each other in their first generations up to the limit,
--- which include all phases of those that stay
+-- whether each cluster of X stays in place, and the clusters are apart in their first generations up to the limit,
+-- which include all phases
 unfoldable pub is_steady : RuleSets → Cells → ℕ → Bool
 is_steady r X limit = list_all (stays r limit) (clusters_of X) && all_keep_apart r limit (clusters_of X)

@@ -25,14 +25,14 @@ visit_of number c = record { cell = c; cluster = number }
 abbrev pub IsVisitInPlane : Visit → Type 0
 IsVisitInPlane v = IsCellWithin PLANE v.cell
 
--- the visits are those of all phases of the first n sets
+-- the list has exactly the visits of all phases of the first n sets
 pub record AreVisits (r : RuleSets) (Ps : List Cells) (n : ℕ) (visits : List Visit) : Type 0 where
   pub only : (v : Visit) → Contains visits v → (v.cluster < n)
       × ((i : ℕ) × ((d : Cells) → set.contains (generation_of r (slice_index_or Ps v.cluster d) i) v.cell ≡ true))
   pub all : (number i : ℕ) (d : Cells) (c : Cell) → number < n
       → set.contains (generation_of r (slice_index_or Ps number d) i) c ≡ true → Contains visits (visit_of number c)
 
--- visits of two clusters are to cells that are not near
+-- two visits of different clusters are to cells that are not near
 abbrev pub KeepApart : Visit → Visit → Type 0
 KeepApart v w = v.cluster ≢ w.cluster → near v.cell w.cell ≡ false
 
@@ -40,15 +40,15 @@ KeepApart v w = v.cluster ≢ w.cluster → near v.cell w.cell ≡ false
 abbrev pub ComesBefore : Cell → Cell → Type 0
 ComesBefore c d = is_lt (cell_cmp c d) ≡ true
 
--- visits of different clusters are to cells that are not near, if no cell of the second comes after the last
+-- the same, unless the second cell comes after `last`
 abbrev pub KeepApartUpTo : Cell → Visit → Visit → Type 0
 KeepApartUpTo last v w = is_lt (cell_cmp last w.cell) ≡ false → KeepApart v w
 
--- visits of different clusters to cells this many rows apart are to cells that are not near
+-- the same, for all pairs of visits whose second cell is this many rows below the first
 abbrev pub AreRowsApart : ℤ → List Visit → Type 0
 AreRowsApart rows visits =
     (v w : Visit) → Contains visits v → Contains visits w → w.cell.row ≡ v.cell.row +ℤ rows → KeepApart v w
 
--- all visits of different clusters are to cells that are not near
+-- the same, for all pairs of visits
 abbrev pub AreAllApart : List Visit → Type 0
 AreAllApart visits = (v w : Visit) → Contains visits v → Contains visits w → KeepApart v w

@@ -1,4 +1,4 @@
--- The known shapes of clusters.
+-- The table of the known shapes of clusters.
 use Rattle.std.specs.Prelude.{◌≡◌, ℕ, zero, suc, ◌≤◌, ◌<◌, Bool, IsTrue, List, [], ◌++◌, length, slice_index_or, Option}
 use Rattle.std.specs.Prelude.{MatchOption}
 use Rattle.std.specs.List.{All}
@@ -12,7 +12,7 @@ use Rattle.life_code.specs.Codes.{code_of}
 use Rattle.life_census.specs.declared.survey.Shape.{Shape}
 use Rattle.life_census.specs.Steady.{Stays}
 
--- the cells of the first n phases of P
+-- the cells of the first n phases of P, one phase after another
 unfoldable pub phases_of : RuleSets → Cells → ℕ → List Cell
 phases_of r P zero = []
 phases_of r P (suc i) = phases_of r P i ++ in_order (generation_of r P i)
@@ -24,18 +24,18 @@ pub record StaysFor (r : RuleSets) (limit : ℕ) (P : Cells) (p : ℕ) : Type 0 
   pub few : p ≤ limit
   pub back : generation_of r P p ≡ P
 
--- P stays in place, and the cells are those of its phases
+-- the cells are the phases of P, which stays in place
 abbrev pub ArePhases : RuleSets → ℕ → Cells → List Cell → Type 0
 ArePhases r limit P cells = (p : ℕ) × StaysFor r limit P p × (cells ≡ phases_of r P p)
 
--- an entry for a shape: the code of its first cluster and, if they are listed, the cells of its phases, or no cells if
--- it does not stay in place
+-- An entry of the table has the code of its first cluster. If phases are listed, it also has the cells of all phases,
+-- or none if the cluster doesn't stay in place.
 pub record IsShape {A : Type 0} (r : RuleSets) (limit : ℕ) (listed : Bool) (s : Shape A) : Type 0 where
   pub code : s.code ≡ code_of r s.cluster limit
   pub phases : IsTrue listed → MatchOption s.phases (Stays r limit s.cluster → ⊥)
       (λ v. ArePhases r limit s.cluster v.items)
 
--- the shapes come from a survey under a rule and a valid limit
+-- all entries are right under this rule and a valid limit
 pub record IsSurvey {A : Type 0} (r : RuleSets) (limit : ℕ) (listed : Bool) (shapes : List (Shape A)) : Type 0 where
   pub from_one : 1 ≤ limit
   pub few : limit ≤ PERIOD_LIMIT

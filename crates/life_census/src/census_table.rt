@@ -1,4 +1,4 @@
-//! A tally as CSV.
+//! Writes a tally as CSV.
 ghost use Rattle.std.specs.Prelude.{◌≡◌, ℕ, List, [], ◌∷◌, ◌++◌, map, true, IfOk};
 ghost use Rattle.std.specs.List.{list_all};
 ghost use Rattle.csv.specs.Writing.{row_text, default_writer};
@@ -13,15 +13,13 @@ use itoa::Buffer;
 use life_core::Fault;
 use std::alloc::{AllocError, Allocator};
 
-/// The tally as CSV: a header, a line for each code with its count, and a line with the number of
-/// clusters without a code.
+/// The tally as CSV: the header `code,count`, a line for each code, and last the number of clusters without a code.
 pub fn csv<A: Allocator + Copy>(alloc: A, tally: &Tally<A>) -> Result<Vec<u8, A>, Fault>
     ensures { IfOk result (λ v. v.items ≡ csv_text tally.now) }
 {
     Ok(text_of(alloc, tally.rows.as_slice(), tally.unresolved)?)
 }
 
-/// The text of rows, and of the number of clusters without a code.
 fn text_of<A: Allocator + Copy>(
     alloc: A,
     rows: &[Row<A>],
@@ -38,14 +36,13 @@ fn text_of<A: Allocator + Copy>(
     finish(table)
 }
 
-/// A table without lines.
 fn new_table<A: Allocator>(alloc: A) -> Writer<Vec<u8, A>>
     ensures { Holds result [] }
 {
     WriterBuilder::new().from_writer(Vec::new(alloc))
 }
 
-/// Adds a line of two fields.
+/// Any error of the writer, which writes to memory, counts as out of memory.
 fn add_fields<A: Allocator>(
     table: &mut Writer<Vec<u8, A>>,
     first: &[u8],
@@ -59,7 +56,7 @@ fn add_fields<A: Allocator>(
     }
 }
 
-/// Adds a line of a code and a count.
+/// Codes and counts need no quotes in CSV.
 fn add_line<A: Allocator>(
     table: &mut Writer<Vec<u8, A>>,
     code: &[u8],
@@ -72,7 +69,6 @@ fn add_line<A: Allocator>(
     add_fields(table, code, buffer.format(count).as_bytes())
 }
 
-/// The text of the table.
 fn finish<A: Allocator>(table: Writer<Vec<u8, A>>) -> Result<Vec<u8, A>, AllocError>
     ensures { IfOk result (λ v. (text : List ℕ) → Holds table text → v.items ≡ text) }
 {

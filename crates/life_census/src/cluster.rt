@@ -1,4 +1,4 @@
-//! The clusters of a pattern: the clusters of its set of cells.
+//! Splits a pattern into its clusters.
 ghost use Rattle.std.specs.Prelude.{◌≡◌, ◌≤◌, IfOk};
 ghost use Rattle.std.specs.List.{All};
 ghost use Rattle.life_core.specs.Pattern.{IsWithin};
@@ -10,9 +10,8 @@ use crate::flood::flooded;
 use life_core::{Fault, Pattern, Run, Runs};
 use std::alloc::Allocator;
 
-/// The clusters of the pattern at their positions, each once, ordered by their least cells: by row and
-/// then by column. Two cells are in one cluster if a chain of cells of the pattern leads from one to the
-/// other, each at most 2 columns and 2 rows from the one before it.
+/// The clusters of the pattern, in place, ordered by their least cells: by row and then by column. Two cells are in
+/// one cluster if a chain of live cells connects them, with steps of at most 2 columns and 2 rows.
 pub fn clusters<A: Allocator + Copy>(
     alloc: A,
     pattern: &Pattern<A>,
@@ -23,7 +22,7 @@ pub fn clusters<A: Allocator + Copy>(
     parted(alloc, &mut left)
 }
 
-/// The clusters of the cells of runs; empties the runs.
+/// Empties the runs as it goes.
 fn parted<A: Allocator + Copy>(alloc: A, left: &mut [Run]) -> Result<Vec<Pattern<A>, A>, Fault>
     requires order { AreRunsInOrder left.old }
     requires inside { IsWithin PLANE (cells_in left.old) }
@@ -39,14 +38,14 @@ fn parted<A: Allocator + Copy>(alloc: A, left: &mut [Run]) -> Result<Vec<Pattern
     Ok(clusters)
 }
 
-/// The cluster of these runs, which may be in any order. None of them is empty.
+/// The runs may be in any order.
 fn pattern_of<A: Allocator + Copy>(alloc: A, runs: Vec<Run, A>) -> Result<Pattern<A>, Fault>
     requires filled { All (λ r. 1 ≤ r.len) runs.items }
     requires inside { IsWithin PLANE (cells_in runs.items) }
     ensures { IfOk result (λ X. X ≡ cells_in runs.items) }
 {
     let mut runs = runs;
-    // A list in order becomes a pattern without a copy.
+    // If the runs are in order, they become a pattern without a copy.
     runs.sort_unstable();
     let mut cells = Runs::new(alloc);
     for run in &runs {

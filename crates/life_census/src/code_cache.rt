@@ -1,4 +1,4 @@
-//! The codes of the clusters of many patterns.
+//! A cache of codes for counting the clusters of many patterns, such as soups.
 ghost use Rattle.std.specs.Prelude.{◌≡◌, ◌≤◌, false, ◌++◌, ◌∷◌, [], map, IfOk, OnOk};
 ghost use Rattle.std.specs.List.{All};
 ghost use Rattle.life_core.specs.Pattern.{IsWithin};
@@ -14,8 +14,8 @@ use life_core::{Fault, Pattern, Rule};
 use std::alloc::{AllocError, Allocator};
 use std::marker::Model;
 
-/// CodeCache the clusters of one pattern after another, under a rule and a limit on the period. It remembers the codes of all shapes that it
-/// has met, so each is computed once.
+/// Finds the codes of clusters, pattern by pattern, under one rule and limit on the period. It keeps the code of every
+/// shape that it has met, so it computes each only once.
 #[derive(Drop)]
 pub struct CodeCache<A: Allocator> {
     rule: Rule,
@@ -38,7 +38,7 @@ impl<A: Allocator> Model for CodeCache<A> {
 }
 
 impl<A: Allocator + Copy> CodeCache<A> {
-    /// Under this rule and this limit, with no shapes yet.
+    /// An empty cache.
     pub fn new(alloc: A, rule: Rule, limit: u32) -> CodeCache<A>
         requires from_one { 1 ≤ limit }
         requires few { limit ≤ PERIOD_LIMIT }
@@ -67,7 +67,6 @@ impl<A: Allocator + Copy> CodeCache<A> {
     }
 }
 
-/// The codes of clusters, in their order.
 fn named<A: Allocator + Copy>(
     search: &Search<A>,
     clusters: &[Pattern<A>],
@@ -86,7 +85,6 @@ fn named<A: Allocator + Copy>(
     Ok(codes)
 }
 
-/// Appends a code, or `None`, to the list.
 fn put_code<A: Allocator + Copy>(
     alloc: A,
     codes: &mut Vec<Option<CodeText<A>>, A>,
@@ -98,7 +96,6 @@ fn put_code<A: Allocator + Copy>(
     Ok(())
 }
 
-/// A copy of the code, if there is one.
 fn copied<A: Allocator>(
     alloc: A,
     code: &Option<CodeText<A>>,

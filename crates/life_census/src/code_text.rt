@@ -1,4 +1,4 @@
-//! Texts of codes.
+//! Codes as texts that need no quotes in CSV.
 ghost use Rattle.std.specs.Prelude.{◌≡◌, true, IfOk};
 ghost use Rattle.std.specs.List.{list_all};
 ghost use Rattle.life_census.specs.CodeText.{is_code_byte};
@@ -25,7 +25,7 @@ impl<A: Allocator> Model for CodeText<A> {
 }
 
 impl<A: Allocator> CodeText<A> {
-    /// The text of these bytes.
+    /// Copies the bytes.
     pub fn from_slice(alloc: A, bytes: &[u8]) -> Result<CodeText<A>, AllocError>
         requires { list_all is_code_byte bytes.now ≡ true }
         ensures { IfOk result (λ t. t ≡ bytes.now) }
@@ -44,14 +44,13 @@ impl<A: Allocator> CodeText<A> {
     }
 }
 
-/// Whether the bytes may occur in the text of a code.
+/// Checks only the characters: the text need not be the code of any object.
 pub fn is_code_text(bytes: &[u8]) -> bool
     ensures { result ≡ list_all is_code_byte bytes.now }
 {
     bytes.iter().all(|byte| is_code_byte(*byte))
 }
 
-/// Whether it is a lower-case letter, a digit or `_`.
 fn is_code_byte(byte: u8) -> bool
     ensures { result ≡ is_code_byte byte }
 {

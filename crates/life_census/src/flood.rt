@@ -1,4 +1,4 @@
-//! Finding a cluster from one of its runs.
+//! Finds a cluster from one of its runs, by a flood fill over runs.
 ghost use Rattle.std.specs.Prelude.{◌≡◌, ◌<◌, ◌≤◌, pos, ◌+ℤ◌, ◌-ℤ◌, true, false, IfOk, OnOk, length, slice_index_or};
 ghost use Rattle.std.specs.Bool.{MatchBool};
 ghost use Rattle.std.specs.List.{All};
@@ -12,8 +12,7 @@ ghost use Rattle.life_census.specs.FloodState.{IsFlood, IsClear, IsRound, IsTake
 use life_core::{Cell, Run, first_from};
 use std::alloc::{AllocError, Allocator};
 
-/// Takes out the runs that the remaining cells connect to the start. A run that is taken out leaves an
-/// empty run behind.
+/// Moves the runs that are connected to the start out of `left`, and leaves an empty run in the place of each.
 pub fn flooded<A: Allocator + Copy>(
     alloc: A,
     left: &mut [Run],
@@ -37,7 +36,7 @@ pub fn flooded<A: Allocator + Copy>(
     Ok(cluster)
 }
 
-/// Takes out the runs that are near a run.
+/// Moves all runs that are near this one, in the five rows from two above it to two below.
 fn take_near<A: Allocator + Copy>(
     left: &mut [Run],
     cluster: &mut Vec<Run, A>,
@@ -54,7 +53,7 @@ fn take_near<A: Allocator + Copy>(
     Ok(())
 }
 
-/// Takes out the runs of one row that are near a run.
+/// Moves the runs of one row that are near this one. A binary search finds the first.
 fn take_row<A: Allocator + Copy>(
     left: &mut [Run],
     cluster: &mut Vec<Run, A>,
@@ -75,7 +74,7 @@ fn take_row<A: Allocator + Copy>(
     Ok(())
 }
 
-/// Takes out one run, if it is still there.
+/// Moves one run, unless it is empty because it was moved before.
 fn take_run<A: Allocator + Copy>(
     left: &mut [Run],
     cluster: &mut Vec<Run, A>,
@@ -92,7 +91,7 @@ fn take_run<A: Allocator + Copy>(
     Ok(())
 }
 
-/// The first column at most 2 away from a column of the run, and the one after the last such column.
+/// The columns at most 2 away from the run: the first of them, and the one after the last.
 fn reach(run: Run) -> (i64, i64)
     ensures from { result.0 ≡ run.first -ℤ pos 2 }
     ensures to { result.1 ≡ (run.first +ℤ pos run.len) +ℤ pos 2 }
@@ -100,7 +99,7 @@ fn reach(run: Run) -> (i64, i64)
     (i64::from(run.first) - 2, run.end() + 2)
 }
 
-/// Whether the run begins in an earlier row, or before this column of the row.
+/// Compares the first cell of the run with a cell, by row and then by column.
 fn begins_before(run: Run, row: i64, column: i64) -> bool
     ensures { MatchBool result (BeginsBefore run row column) (BeginsAtOrAfter run row column) }
 {

@@ -1,4 +1,4 @@
-//! Whether the clusters of a field ever meet.
+//! Decides whether the clusters of a field ever meet.
 ghost use Rattle.std.specs.Prelude.{◌≡◌, ◌↔◌, ℕ, pos, ◌≤◌, ◌<◌, ◌≤ℤ◌, ◌++◌, true, map, slice_index_or, IsTrue, IfOk, OnOk, length, IfSome, MatchOption};
 ghost use Rattle.std.specs.Bool.{MatchBool};
 ghost use Rattle.std.specs.List.{All, Contains};
@@ -24,17 +24,16 @@ use life_code::{PERIOD_LIMIT, kind};
 use life_core::{Cell, Fault, Pattern, Rule};
 use std::alloc::{AllocError, Allocator};
 
-/// A cell that is live in some phase of a cluster, and the number of the cluster.
+/// A cell that is live in some phase of a cluster, with the number of the cluster.
 #[derive(Clone, Copy, PartialEq, Eq, PartialOrd, Ord)]
 struct Visit {
     cell: Cell,
     cluster: usize,
 }
 
-/// Whether the field is steady under the rule and the limit on the period: each cluster is a still
-/// life or an oscillator, and no cell of any phase of one is within 2 columns and 2 rows of a cell of
-/// any phase of another. Each cluster then evolves for ever as if it were alone. The empty field is
-/// steady. The cells of all phases are in memory at once.
+/// Whether the field is steady: each cluster is a still life or an oscillator within the limit on the period, and no
+/// two of them ever come near each other. Then each cluster evolves as if the others didn't exist. The empty field is
+/// steady. Needs memory for the cells of all phases at once.
 pub fn steady<A: Allocator + Copy>(
     alloc: A,
     rule: &Rule,
@@ -53,8 +52,8 @@ pub fn steady<A: Allocator + Copy>(
     never_meet(&search, &clusters, &mut Vec::new(alloc))
 }
 
-/// The tally of a field, as from [`tally`](crate::tally), and whether the field is steady, as from
-/// [`steady`]. The clusters are found once, and each shape among them is surveyed once.
+/// [`tally`](crate::tally) and [`steady`] together. Finds the clusters only once, and so the code and phases of each
+/// shape.
 pub fn tally_and_steady<A: Allocator + Copy>(
     alloc: A,
     rule: &Rule,
@@ -74,14 +73,14 @@ pub fn tally_and_steady<A: Allocator + Copy>(
         return Ok((tally, stays_in_place(kind)));
     }
     let mut shapes = Vec::new(alloc);
-    // It ends at the first cluster that moves or is unresolved, so no phases of later shapes are listed.
+    // This stops at the first cluster that moves or is unresolved, and lists no phases of later shapes.
     let steady = never_meet(&search, &clusters, &mut shapes)?;
     let tally = tally_of(&search, &clusters, &mut shapes)?;
     Ok((tally, steady))
 }
 
-/// Whether these clusters stay in place and never come near each other. New shapes are added to the
-/// table, with their phases.
+/// Whether these clusters stay in place and never come near each other. Adds new shapes, with their phases, to the
+/// table.
 fn never_meet<A: Allocator + Copy>(
     search: &Search<A>,
     clusters: &[Pattern<A>],
@@ -99,8 +98,8 @@ fn never_meet<A: Allocator + Copy>(
     Ok(are_apart(&visits))
 }
 
-/// The cells of all phases of the clusters, if all of them stay in place. Up to the first that does
-/// not, each new shape is added to the table.
+/// The cells of all phases of all clusters; `None` if a cluster moves or is unresolved. Adds new shapes to the table
+/// until then.
 fn all_visits<A: Allocator + Copy>(
     search: &Search<A>,
     clusters: &[Pattern<A>],
@@ -124,7 +123,7 @@ fn all_visits<A: Allocator + Copy>(
     Ok(Some(visits))
 }
 
-/// Adds the cells of all phases of one cluster, each moved.
+/// `cells` are the phases of the first cluster of this shape, and `move_by` takes it to this one.
 fn visit_cells<A: Allocator>(
     cells: &[Cell],
     move_by: Cell,
@@ -143,7 +142,8 @@ fn visit_cells<A: Allocator>(
     Ok(())
 }
 
-/// Whether no two of the sorted cells that belong to different clusters are near each other.
+/// Whether cells of different clusters are never near each other. Since the cells are sorted, three passes suffice:
+/// for rows 0, 1 and 2 apart.
 fn are_apart(visits: &[Visit]) -> bool
     requires sorted { IsSorted visit_cmp visits.now }
     requires inside { All IsVisitInPlane visits.now }
@@ -158,8 +158,8 @@ fn are_apart(visits: &[Visit]) -> bool
     are_rows_apart(visits, 2)
 }
 
-/// Whether no cell is near a cell of another cluster that is this many rows below it. From one cell to
-/// the next, the index of the first that can be near only increases.
+/// One pass, for cells of another cluster this many rows below. The first cell that can be near only moves forward, so
+/// a pass doesn't search for it from the start.
 fn are_rows_apart(visits: &[Visit], rows: i64) -> bool
     requires sorted { IsSorted visit_cmp visits.now }
     requires inside { All IsVisitInPlane visits.now }
@@ -177,7 +177,7 @@ fn are_rows_apart(visits: &[Visit], rows: i64) -> bool
     true
 }
 
-/// The first index, from the start on, whose cell does not come before this cell.
+/// The first index from `start` on whose cell is not before this one.
 fn first_from(visits: &[Visit], start: usize, cell: Cell) -> usize
     requires { start ≤ length visits.now }
     ensures bound { result ≤ length visits.now }
@@ -190,7 +190,7 @@ fn first_from(visits: &[Visit], start: usize, cell: Cell) -> usize
     index
 }
 
-/// Whether a cell is near a cell of another cluster, among those that can be near.
+/// Whether a cell is near a cell of another cluster; `others` are sorted, and none after `last` can be near.
 fn meets(visit: Visit, others: &[Visit], last: Cell) -> bool
     requires { IsSorted visit_cmp others.now }
     ensures { MatchBool result ((w : VisitValue) × Contains others.now w × (KeepApart visit w → ⊥)) (All (KeepApartUpTo last visit) others.now) }
@@ -206,7 +206,7 @@ fn meets(visit: Visit, others: &[Visit], last: Cell) -> bool
     false
 }
 
-/// Whether the rows and the columns of two cells differ by at most 2.
+/// At most 2 apart in rows and in columns.
 fn is_near(a: Cell, b: Cell) -> bool
     ensures { result ≡ near a b }
 {

@@ -1,4 +1,4 @@
-//! The shapes of clusters. Each is surveyed once, when it is first met.
+//! A table of the shapes of clusters. Translated copies share a shape, whose code is computed only once.
 ghost use Rattle.std.specs.Prelude.{◌≡◌, ℕ, ◌≤◌, ◌++◌, ◌∷◌, [], IfOk, IfSome, IsTrue, OnOk, OnErr, MatchOption};
 ghost use Rattle.life_core.specs.Pattern.{IsWithin};
 ghost use Rattle.life_code.specs.Codes.{code_of};
@@ -11,8 +11,8 @@ use life_code::{Kind, PERIOD_LIMIT, code_of_kind, kind};
 use life_core::{Cell, CellList, Fault, PackedRows, Pattern, Plane, Rule, is_packed, list_runs};
 use std::alloc::{AllocError, Allocator};
 
-/// A shape: the first cluster with it, its code, if it has one, and the cells of all phases of that
-/// cluster, if they are listed and it stays in place.
+/// A shape: its first cluster, the code if it has one, and the cells of all phases, if they were requested and the
+/// cluster stays in place.
 #[derive(Drop)]
 pub struct Shape<A: Allocator> {
     pub cluster: Pattern<A>,
@@ -20,7 +20,7 @@ pub struct Shape<A: Allocator> {
     pub phases: Option<Vec<Cell, A>>,
 }
 
-/// What to find out about each cluster: its kind and code under a rule and a limit on the period.
+/// The question that is the same for all clusters: the code under this rule and limit on the period.
 #[derive(Clone, Copy)]
 pub struct Search<A: Allocator> {
     pub alloc: A,
@@ -40,8 +40,8 @@ impl<A: Allocator + Copy> Search<A> {
         }
     }
 
-    /// The index of a cluster's shape in the table, and the translation that takes the first cluster of
-    /// this shape to it. A new shape gets the last index. `listed` says whether its phases are listed.
+    /// The index of a cluster's shape, and the translation from the first cluster of this shape to it. A new shape is
+    /// added at the end. Only if `listed` are its phases stored.
     pub fn shape_index(
         &self,
         cluster: &Pattern<A>,
@@ -63,7 +63,7 @@ impl<A: Allocator + Copy> Search<A> {
         Ok((i, Cell { row: 0, column: 0 }))
     }
 
-    /// The shape of a cluster. Its kind is computed once.
+    /// Computes the kind only once, for both the code and the phases.
     fn surveyed(&self, cluster: &Pattern<A>, listed: bool) -> Result<Shape<A>, Fault>
         requires { IsSearchable self.now.limit cluster.now }
         ensures cluster { IfOk result (λ s. s.cluster ≡ cluster.now) }
@@ -77,7 +77,7 @@ impl<A: Allocator + Copy> Search<A> {
         })
     }
 
-    /// The code of a cluster of this kind, if it has one.
+    /// The code, if there is one. The caller knows the kind.
     pub fn code_of(&self, cluster: &Pattern<A>, kind: Kind) -> Result<Option<CodeText<A>>, Fault>
         requires { IsKindOf self.now.rule cluster.now self.now.limit kind }
         ensures { IfOk result (λ o. o ≡ code_of self.now.rule cluster.now self.now.limit) }
@@ -88,7 +88,7 @@ impl<A: Allocator + Copy> Search<A> {
         }
     }
 
-    /// The cells of all phases of a cluster of this kind, if they are listed and it stays in place.
+    /// `None` if `listed` is false, or if the cluster moves or is unresolved.
     fn listed_phases(
         &self,
         cluster: &Pattern<A>,
@@ -108,7 +108,7 @@ impl<A: Allocator + Copy> Search<A> {
         }
     }
 
-    /// The cells of all phases of a cluster, up to its period.
+    /// A cell that is live in several phases is listed several times.
     fn phases(&self, cluster: &Pattern<A>, period: u32) -> Result<Vec<Cell, A>, Fault>
         requires few { period ≤ PERIOD_LIMIT }
         requires room { IsWithin 400_000_000 cluster.now }
@@ -121,7 +121,7 @@ impl<A: Allocator + Copy> Search<A> {
         }
     }
 
-    /// The cells of this many phases, computed on one plane of the type `P`.
+    /// Steps one plane, phase by phase.
     fn phases_by<P: Plane<A>>(
         &self,
         cluster: &Pattern<A>,
@@ -141,7 +141,7 @@ impl<A: Allocator + Copy> Search<A> {
     }
 }
 
-/// The index of a cluster's shape and the translation, if the shape is known.
+/// Compares the cluster with each known shape in turn.
 fn known_index<A: Allocator + Copy>(
     shapes: &[Shape<A>],
     cluster: &Pattern<A>,
@@ -156,7 +156,6 @@ fn known_index<A: Allocator + Copy>(
     None
 }
 
-/// Adds a shape to the known ones.
 fn add_shape<A: Allocator>(shapes: &mut Vec<Shape<A>, A>, shape: Shape<A>) -> Result<(), AllocError>
     ensures added { OnOk result (shapes.new.items ≡ shapes.old.items ++ shape ∷ []) }
     ensures kept { OnErr result (shapes.new.items ≡ shapes.old.items) }
@@ -165,7 +164,7 @@ fn add_shape<A: Allocator>(shapes: &mut Vec<Shape<A>, A>, shape: Shape<A>) -> Re
     Ok(())
 }
 
-/// Whether a cluster of this kind stays in place.
+/// Still lifes and oscillators do.
 pub fn stays_in_place(kind: Kind) -> bool
     ensures { result ≡ is_staying kind }
 {

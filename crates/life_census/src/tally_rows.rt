@@ -6,14 +6,14 @@ use crate::code_text::CodeText;
 use std::alloc::{Allocator, Global};
 use std::marker::Model;
 
-/// A code, and how many clusters have it.
+/// A code and the number of clusters that have it.
 #[derive(Debug, Drop)]
 pub struct Row<A: Allocator = Global> {
     pub code: CodeText<A>,
     pub count: u64,
 }
 
-/// Rows. Those of a tally are in the byte order of their codes.
+/// Rows; a tally has them in the byte order of their codes.
 #[derive(Debug, Drop)]
 pub struct Rows<A: Allocator = Global> {
     rows: Vec<Row<A>, A>,
@@ -29,14 +29,14 @@ impl<A: Allocator> Model for Rows<A> {
 }
 
 impl<A: Allocator> Rows<A> {
-    /// These rows.
+    /// The caller puts them in order.
     pub fn of(rows: Vec<Row<A>, A>) -> Rows<A>
         ensures { result ≡ map row_seen rows.items }
     {
         Rows { rows }
     }
 
-    /// The rows.
+    /// In the order given to [`of`](Rows::of).
     pub fn as_slice(&self) -> &[Row<A>]
         ensures { map row_seen result.now ≡ self.now }
     {
@@ -44,7 +44,7 @@ impl<A: Allocator> Rows<A> {
     }
 }
 
-/// How many clusters of a pattern have each code, how many have no code, and how many there are in all.
+/// A census of one pattern: the rows by code, the number of clusters without a code, and the number of all clusters.
 #[derive(Debug, Drop)]
 pub struct Tally<A: Allocator = Global> {
     pub rows: Rows<A>,

@@ -19,8 +19,7 @@ use life_core::{Fault, Pattern, Rule};
 use std::alloc::{AllocError, Allocator};
 use std::cmp::Ordering;
 
-/// How many clusters of the pattern have each code, under the rule and the limit on the period, and
-/// how many have no code.
+/// Counts the clusters of the pattern by code, under the rule and the limit on the period.
 pub fn tally<A: Allocator + Copy>(
     alloc: A,
     rule: &Rule,
@@ -39,7 +38,7 @@ pub fn tally<A: Allocator + Copy>(
     tally_of(&search, &clusters, &mut Vec::new(alloc))
 }
 
-/// The tally of a field that is a single cluster of this kind.
+/// The tally of a field that is a single cluster, whose kind is already known.
 pub fn tally_of_one<A: Allocator + Copy>(
     search: &Search<A>,
     cluster: &Pattern<A>,
@@ -52,7 +51,6 @@ pub fn tally_of_one<A: Allocator + Copy>(
     Ok(tally_of_code(search.alloc, &code)?)
 }
 
-/// The tally of one cluster with this code, or without a code.
 fn tally_of_code<A: Allocator + Copy>(
     alloc: A,
     code: &Option<CodeText<A>>,
@@ -72,8 +70,7 @@ fn tally_of_code<A: Allocator + Copy>(
     })
 }
 
-/// How many of the clusters have each code, and how many have no code. New shapes are added to the
-/// table.
+/// Counts clusters by code. Adds new shapes to the table.
 pub fn tally_of<A: Allocator + Copy>(
     search: &Search<A>,
     clusters: &[Pattern<A>],
@@ -99,7 +96,7 @@ pub fn tally_of<A: Allocator + Copy>(
     })
 }
 
-/// Counts one more of a code.
+/// Adds 1 to the count of a code, or inserts a row for it.
 fn count_code<A: Allocator + Copy>(
     alloc: A,
     rows: &mut Vec<Row<A>, A>,
@@ -119,7 +116,7 @@ fn count_code<A: Allocator + Copy>(
     Ok(())
 }
 
-/// The index of a code among rows, or the one where it belongs.
+/// A linear search in sorted rows: `Ok` with the index of the code, or `Err` with the index at which to insert it.
 fn place_of<A: Allocator>(rows: &[Row<A>], code: &[u8]) -> Result<usize, usize>
     ensures before { MatchResult result (AreBelow rows.now code.now) (AreBelow rows.now code.now) }
     ensures here { MatchResult result (IsRowOf rows.now code.now) (IsPlaceFor rows.now code.now) }

@@ -1,4 +1,4 @@
--- What the rows of an archive's censuses say of a reading of them: it meets each, and nothing else.
+-- Reading the tables of an archive's censuses meets exactly their rows.
 use Rattle.std.proofs.Common.{◌≡◌, ◌<◌, ◌≤◌, ◌∙◌, ℕ, zero, suc, ◌+◌, List, [], ◌∷◌, ◌++◌, length, map, take}
 use Rattle.std.proofs.Common.{slice_index_or, sum_by, Bool, true, false, Some, IsSome, refl, sym, ap, ap₂, subst, arith}
 use Rattle.std.specs.List.{AllByRecursion}

@@ -1,4 +1,4 @@
--- What files hold that were checked.
+-- The contents of files after a check.
 use Rattle.std.proofs.Common.{ℕ, Bool, List, Result, Ok, Err, IsTrue}
 use Rattle.std.specs.Prelude.{IfOk}
 use Rattle.sqlite_disk.specs.declared.Disk as disk
@@ -10,9 +10,9 @@ use Rattle.life_store.specs.declared.store_fault.Unavailable.{Unavailable}
 use Rattle.life_store.specs.Tables.{ArchiveView}
 use Rattle.life_desk.specs.Represents.{kept_of}
 use Rattle.life_desk.proofs.Representing.{holds_of}
-use Rattle.life_check.specs.declared.judging.CheckVerdict.{CheckVerdict}
-use Rattle.life_check.specs.declared.judging.CheckVerdict.TheVariants.{Sound, SoundButForCounts, NotSound}
-use Rattle.life_check.specs.declared.judging.Wrong.{Wrong}
+use Rattle.life_check.specs.declared.archive_check.CheckVerdict.{CheckVerdict}
+use Rattle.life_check.specs.declared.archive_check.CheckVerdict.TheVariants.{Sound, SoundButForCounts, NotSound}
+use Rattle.life_check.specs.declared.archive_check.Wrong.{Wrong}
 use Rattle.life_check.specs.Sound.{RepresentsSome}
 use Rattle.life_check.specs.Files.{EndsCheck, IsFoundAt, FindsIn, IsPathCheck}
 

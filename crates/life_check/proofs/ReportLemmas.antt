@@ -1,14 +1,14 @@
--- What is put and answered for the result of a check.
+-- The output and the job's result for a check.
 use Rattle.std.proofs.Common.{◌≡◌, ℕ, Bool, List, Option, Result, Ok, Err, refl, sym, subst, inl, inr}
 use Rattle.life_jobs.specs.declared.stop.Stop.{Stop}
 use Rattle.life_jobs.specs.declared.stop.Stop.TheVariants.{OutOfLimit, BadPattern, BadRule, BadCode, Unreadable}
 use Rattle.life_jobs.specs.declared.stop.Stop.TheVariants.{Unavailable, Unwritable}
 use Rattle.life_jobs.specs.Streams.{PutsText, PutsOnce}
-use Rattle.life_check.specs.declared.judging.CheckVerdict.{CheckVerdict}
-use Rattle.life_check.specs.declared.judging.CheckVerdict.TheVariants.{Sound, SoundButForCounts, NotSound}
+use Rattle.life_check.specs.declared.archive_check.CheckVerdict.{CheckVerdict}
+use Rattle.life_check.specs.declared.archive_check.CheckVerdict.TheVariants.{Sound, SoundButForCounts, NotSound}
 use Rattle.life_check.specs.declared.report.CheckStop.{CheckStop}
 use Rattle.life_check.specs.declared.report.CheckStop.TheVariants as stops
-use Rattle.life_check.specs.declared.judging.Wrong.{Wrong}
+use Rattle.life_check.specs.declared.archive_check.Wrong.{Wrong}
 use Rattle.life_check.specs.Report.{checked_lines, answer_of, PutsVerdict, by_output}
 
 -- the lines were not put

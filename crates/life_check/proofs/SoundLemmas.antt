@@ -1,4 +1,4 @@
--- Tables whose rows were read and judged represent an archive.
+-- Tables whose rows were found sound represent an archive.
 use Rattle.std.proofs.Common.{◌≡◌, ◌<◌, ◌≤◌, ◌∙◌, ℕ, suc, ◌^◌, List, [], ◌∷◌, length, map, Bool, true, false, Option}
 use Rattle.std.proofs.Common.{None, Some, Result, Ok, Err, refl, sym, ap₂, subst, arith}
 use Rattle.std.specs.Prelude.{IsSome, IfOk, OnOk}
@@ -23,13 +23,13 @@ use Rattle.sqlite_schema.specs.declared.schema.Constraint.TheVariants.{Unique}
 use Rattle.sqlite_schema.specs.Rules.{Keeps}
 use Rattle.life_store.specs.Layout.{archive_schema}
 use Rattle.life_store.specs.TreesOf.{AreTreesOf}
-use Rattle.life_check.specs.declared.judging.CheckVerdict.{CheckVerdict}
-use Rattle.life_check.specs.declared.judging.CheckVerdict.TheVariants.{Sound, SoundButForCounts, NotSound}
+use Rattle.life_check.specs.declared.archive_check.CheckVerdict.{CheckVerdict}
+use Rattle.life_check.specs.declared.archive_check.CheckVerdict.TheVariants.{Sound, SoundButForCounts, NotSound}
 use Rattle.life_check.specs.Sound.{AreSound, FindsSound, FindsWrong, IsAskedFor, HasUniqueTokens}
 use Rattle.life_check.specs.Sound.{HoldsInAnyOrder, RepresentsButForCounts, RepresentsSome, RepresentsNone}
 use Rattle.life_check.specs.Sound.{IsFirstError, AreNoArchive}
-use Rattle.life_check.specs.declared.judging.Wrong.{Wrong}
-use Rattle.life_check.specs.declared.judging.Wrong.TheVariants as wrong
+use Rattle.life_check.specs.declared.archive_check.Wrong.{Wrong}
+use Rattle.life_check.specs.declared.archive_check.Wrong.TheVariants as wrong
 use Rattle.life_check.proofs.WalkLemmas.{all_more}
 use Rattle.life_check.proofs.TokenLemmas.{unique_deposits, unique_censuses}
 

@@ -1,4 +1,4 @@
--- Rows that obey the archive's tables: no two have the same member and the same token.
+-- Rows that obey the archive's schema never share both member and token.
 use Rattle.std.proofs.Common.{◌≡◌, ◌+◌, ◌∙◌, ◌&&◌, ◌||◌, ◌==◌, ℕ, zero, suc, pos, List, [], ◌∷◌, map, Bool, true, false}
 use Rattle.std.proofs.Common.{not, bytes_eq, if◌then◌else◌, Option, Some, slice_get, refl, sym, ap, ap₂, subst, arith}
 use Rattle.std.specs.List.{AllByRecursion, list_any}

@@ -1,4 +1,4 @@
--- The state while the censuses of an archive are read, with the rows of their tallies and their flags, and the results.
+-- Reading the censuses of an archive, with the rows of their tallies and their flags: the state, and the results.
 use Rattle.std.specs.Prelude.{◌≡◌, ◌<◌, ◌≤◌, ◌+◌, ◌^◌, ◌==◌, ℕ, Bool, false, List, [], ◌∷◌, ◌++◌, length, sum_by, Some}
 use Rattle.std.specs.Prelude.{IsSome, IfSome, Option}
 use Rattle.std.specs.List.{AllByRecursion}
@@ -17,8 +17,8 @@ use Rattle.life_check.specs.declared.walk.FoundCensuses.{FoundCensuses}
 use Rattle.life_check.specs.declared.walk.FoundCensuses.TheVariants.{All, Wrong}
 use Rattle.life_check.specs.ReadState.{census_row, flag_row, IsValidCensus}
 
--- A request can ask for the census, its deposit exists, and its tally adds up. Unless the check is quick, its tally and
--- its flag are those of its generation, and the rows of the tally are in order.
+-- The census's fields are valid in a request, its deposit exists, and its tally adds up. Unless the check is quick, its
+-- tally and its flag are the computed ones, and the rows of the tally are in order.
 pub record IsCounted (quick : Bool) (ds : List Deposit) (t : Tallied) : Type 0 where
   pub askable : IsValidCensus t.census
   pub deposit : Deposit
@@ -27,7 +27,7 @@ pub record IsCounted (quick : Bool) (ds : List Deposit) (t : Tallied) : Type 0 w
   pub is : quick ≡ false → t ≡ tallied ds t.census
   pub ordered : quick ≡ false → HasOrder t.tally
 
--- all rows of the three tables are those of n censuses of these deposits
+-- the rows of the three tables represent exactly n censuses of these deposits
 pub record AreCounted (quick : Bool) (trees : Trees) (ds : List Deposit) (n : ℕ) : Type 0 where
   pub censuses : List Tallied
   pub many : length censuses ≡ n
@@ -40,8 +40,8 @@ pub record AreCounted (quick : Bool) (trees : Trees) (ds : List Deposit) (n : �
 abbrev pub AreSome : List (List ℕ × ℕ) → Type 0
 AreSome rows = AllByRecursion (λ row. 1 ≤ row.1) rows
 
--- A request can ask for the census, its deposit exists, and its tally and its flag are those of its generation. Such a
--- tally adds up.
+-- The census's fields are valid in a request, its deposit exists, and its tally and its flag are the computed ones.
+-- Such a tally adds up.
 pub record IsTallied (ds : List Deposit) (t : Tallied) : Type 0 where
   pub askable : IsValidCensus t.census
   pub there : IsSome (numbered ds t.census.deposit)
@@ -49,7 +49,7 @@ pub record IsTallied (ds : List Deposit) (t : Tallied) : Type 0 where
   pub adds_up : AddsUp t.tally
   pub some : AreSome t.tally.rows
 
--- all rows of the three tables are those of such censuses of these deposits
+-- the rows of the three tables represent exactly some such censuses of these deposits
 pub record AreTallied (trees : Trees) (ds : List Deposit) : Type 0 where
   pub censuses : List Tallied
   pub good : AllByRecursion (IsTallied ds) censuses
@@ -61,15 +61,15 @@ pub record AreTallied (trees : Trees) (ds : List Deposit) : Type 0 where
 abbrev pub AreFiled : Trees → List Deposit → Type 0
 AreFiled trees ds = (trees 1 ≡ rows_by deposit_cells 1 ds) × AllByRecursion IsFiled ds
 
--- the deposit that was read last, with its number, is the one that the trees have under this number
+-- the deposit that was read last is the one that the trees have under its number
 abbrev pub IsKnown : View → Option (ℕ × Deposit) → Type 0
 IsKnown v last = (ds : List Deposit) → AreFiled v.trees ds → IfSome last (λ known. numbered ds known.0 ≡ Some known.1)
 
 abbrev pub IsInsideSquare : Option (ℕ × Deposit) → Type 0
 IsInsideSquare last = IfSome last (λ known. IsInside 1024 known.1.content.cells)
 
--- The rows of three tables, of censuses of these deposits: those before this number are in order, and what is left does
--- not begin with a census of the number, its rows and its flag; nor is nothing left.
+-- The census with this number is the first wrong one in the three tables. The rows of the earlier ones are right. Rows
+-- are left, and they don't begin with a census of this number, its tally's rows and its flag.
 pub record IsFirstWrongCensus (quick : Bool) (rows counts flags : List Row) (ds : List Deposit) (id : ℕ) : Type 0 where
   pub before : List Tallied
   pub number : id ≡ length before + 1
@@ -86,8 +86,8 @@ pub record IsFirstWrongCensus (quick : Bool) (rows counts flags : List Row) (ds 
       → left_counts ≡ rows_by count_cells (length (counts_from 1 before) + 1) (tagged id t.tally.rows) ++ more_counts
       → left_flags ≡ flag_row id t ∷ more_flags → ⊥
 
--- the result for the three tables: the censuses of all rows; or that no censuses that requests can ask for have these
--- rows, and which is the first that is wrong
+-- The result for the three tables. All: the rows represent n censuses. Wrong: no valid censuses have these rows, and
+-- the first wrong one has this number.
 abbrev pub FindsCounted : Bool → Trees → FoundCensuses → Type 0
 FindsCounted quick trees (All n) =
     ((ds : List Deposit) → AreFiled trees ds → AreCounted quick trees ds n) × (n < 2 ^ 63)
@@ -95,12 +95,12 @@ FindsCounted quick trees (Wrong n) =
     ((ds : List Deposit) → AreFiled trees ds → AreTallied trees ds → ⊥)
     × ((ds : List Deposit) → AreFiled trees ds → IsFirstWrongCensus quick (trees 3) (trees 5) (trees 7) ds n)
 
--- The cursor is going to give these rows next.
+-- The cursor will return these rows next.
 pub record IsBefore (cursor : ℕ) (rows : List Row) (v : View) : Type 0 where
   pub left : List Row
   pub at : v.cursors cursor ≡ Some (rows ++ left)
 
--- The cursor has given these rows. The other cursors have not moved.
+-- The cursor returned these rows. The other cursors have not moved.
 pub record Takes (cursor : ℕ) (rows : List Row) (old now : View) : Type 0 where
   pub left : List Row
   pub was : old.cursors cursor ≡ Some (rows ++ left)
@@ -108,14 +108,14 @@ pub record Takes (cursor : ℕ) (rows : List Row) (old now : View) : Type 0 wher
   pub others : (d : ℕ) → (d == cursor) ≡ false → now.cursors d ≡ old.cursors d
   pub trees : now.trees ≡ old.trees
 
--- The cursor of the tallies' rows has given rows that have the number of the census, and this many clusters in all.
+-- The cursor of the tallies' rows returned rows with the number of the census and this many clusters in all.
 pub record TakesClusters (id clusters before more : ℕ) (old now : View) : Type 0 where
   pub rows : List (List ℕ × ℕ)
   pub are : sum_by (λ (row : List ℕ × ℕ). row.1) rows ≡ clusters
   pub more_is : more ≡ before + length rows
   pub takes : Takes 1 (rows_by count_cells (before + 1) (tagged id rows)) old now
 
--- The row is that of this census under this number, and the other two cursors are before its rows and its flag.
+-- The row belongs to this census under this number, and the other two cursors are before its rows and its flag.
 pub record AwaitsCensus (ds : List Deposit) (id before : ℕ) (row : Row) (t : Tallied) (v : View) : Type 0 where
   pub good : IsTallied ds t
   pub row_is : row ≡ census_row id t
@@ -147,7 +147,7 @@ pub record HasCounted (quick : Bool) (ds : List Deposit) (n read : ℕ) (old now
   pub at_flags : now.cursors 2 ≡ Some left_flags
   pub flags : old.trees 7 ≡ rows_by flag_cells 1 done ++ left_flags
 
--- The row is that of such a census under this number, and the other two cursors gave its rows and its flag.
+-- The row belongs to such a census under this number, and the other two cursors returned its rows and its flag.
 pub record Follows (quick : Bool) (ds : List Deposit) (id before more : ℕ) (row : Row) (old now : View) : Type 0 where
   pub census : Tallied
   pub good : IsCounted quick ds census

@@ -1,4 +1,4 @@
--- What a check finds in files, and what they hold then.
+-- The result of checking files, and their contents after it.
 use Rattle.std.specs.Prelude.{◌≡◌, ◌⊎◌, ℕ, Bool, false, List, length, Option, Some, option_map, Result, Ok, Err, IfOk}
 use Rattle.std.specs.Prelude.{IsTrue}
 use Rattle.sqlite_disk.specs.declared.Disk as disk
@@ -16,22 +16,21 @@ use Rattle.life_store.specs.Opening.{FilesHold, LeftHold, ShowsFound}
 use Rattle.life_store.specs.Tables.{ArchiveView, Holds, IsHealthyIfClean}
 use Rattle.life_desk.specs.Archive.{Archive}
 use Rattle.life_desk.specs.Represents.{Represents, kept_of}
-use Rattle.life_check.specs.declared.judging.CheckVerdict.{CheckVerdict}
-use Rattle.life_check.specs.declared.judging.CheckVerdict.TheVariants.{Sound, SoundButForCounts, NotSound}
-use Rattle.life_check.specs.declared.judging.Wrong.{Wrong}
+use Rattle.life_check.specs.declared.archive_check.CheckVerdict.{CheckVerdict}
+use Rattle.life_check.specs.declared.archive_check.CheckVerdict.TheVariants.{Sound, SoundButForCounts, NotSound}
+use Rattle.life_check.specs.declared.archive_check.Wrong.{Wrong}
 use Rattle.life_check.specs.Listed.{AreWrongThere}
 use Rattle.life_check.specs.Sound.{IsAskedFor, HasUniqueTokens, RepresentsSome, RepresentsNone}
 
--- If the disk has returned what was written up to the end, each image that a crash may leave of the files, and the one
--- that they show, holds the database that was committed in the store before.
+-- If the disk has returned everything as it was written, the files hold the database that was committed in the store
+-- before, and each image that a crash may leave of them does too.
 abbrev pub StaysSame : {D : Type 0} {g : disk.Ghosts D} → ArchiveView (FileStore D g) → Files D → Type 0
 StaysSame {D} {g} a files = AreClean g files.log files.db → (image : Image) → outcomes g files.log files.db image
     → ∥ HoldsDatabase image (view a.store).committed ∥₁
 
--- An archive over files that is checked and let go. If the disk has returned what was written up to the end, the result
--- is that of `check`, each further error is one, and each
--- image that a crash may leave of the files, and the one that they show, holds what the archive held, and the database
--- that was there.
+-- An archive over files was checked and its files were returned. If the disk has returned everything as it was written,
+-- the result is right and each further error exists. The files hold the same archive and the same database as before,
+-- and each image that a crash may leave of them does too.
 pub record EndsCheck {D : Type 0} (quick : Bool) (g : disk.Ghosts D) (a : ArchiveView (FileStore D g))
     (checked : Result CheckVerdict Unavailable) (further : List Wrong) (files : Files D) : Type 0 where
   pub honest : AreClean g files.log files.db → IsHonest over_files a
@@ -41,9 +40,9 @@ pub record EndsCheck {D : Type 0} (quick : Bool) (g : disk.Ghosts D) (a : Archiv
       → LeftHold g files k
   pub stays : IsTrue a.tables.is_healthy → StaysSame a files
 
--- What is in files of this image, opened as it is, whether it is an archive or not: the tables are those of the
--- database that the files hold, and represent what it does. The database is healthy, unless the disk has returned other
--- than what was written.
+-- Files of this image, opened without creating or migrating tables. The tables are the ones of the database in the
+-- files, archive or not, and represent the same contents. The database is healthy, unless the disk returned something
+-- other than what was written.
 pub record IsFoundAt {D : Type 0} {g : disk.Ghosts D} (image : Image) (most : ℕ)
     (a : ArchiveView (FileStore D g)) : Type 0 where
   pub capacity : a.capacity ≡ most
@@ -51,9 +50,9 @@ pub record IsFoundAt {D : Type 0} {g : disk.Ghosts D} (image : Image) (most : �
   pub found : (k : Kept) → IsTrue a.tables.is_healthy → FilesHold image k → Holds a.tables k
   pub shows : IsTrue a.tables.is_healthy → ShowsFound image a
 
--- Sound: an archive with this many deposits and this many censuses, which each image that a crash may leave of the
--- files holds; or, of a quick check, an archive but for its counts. Otherwise: no archive, or none that requests can
--- ask for.
+-- Sound: an archive with this many deposits and censuses, which each image that a crash may leave of the files holds.
+-- Sound but for counts: an archive whose tallies and flags were not counted again. Otherwise: not an archive, or one
+-- that valid requests can't make.
 abbrev pub FindsIn : {D : Type 0} {g : disk.Ghosts D} → Bool → Files D → ArchiveView (FileStore D g) → CheckVerdict
     → Type 0
 FindsIn {D} {g} quick files a (Sound d c) =
@@ -62,8 +61,8 @@ FindsIn {D} {g} quick files a (Sound d c) =
 FindsIn quick files a (SoundButForCounts d c) = RepresentsSome quick a (SoundButForCounts d c)
 FindsIn quick files a (NotSound w) = RepresentsNone quick a w
 
--- A check over the files of a path: what was found, and what the files hold then: what they held before, whosever
--- database it is, and whatever the result.
+-- A check over the files of a path: its result, and the files, which hold the same database as before, archive or not,
+-- whatever the result.
 pub record IsPathCheck {D : Type 0} (quick : Bool) (g : disk.Ghosts D) (image : Image) (capacity : ℕ)
     (checked : Result CheckVerdict Unavailable) (further : List Wrong) (files : Files D) : Type 0 where
   pub opened : ArchiveView (FileStore D g)
@@ -73,12 +72,12 @@ pub record IsPathCheck {D : Type 0} (quick : Bool) (g : disk.Ghosts D) (image : 
   pub keeps : AreClean g files.log files.db → (k : Kept) → FilesHold image k → LeftHold g files k
   pub stays : StaysSame opened files
 
--- What comes of the files of a path: they were checked; or the opening was refused, and they were let go; or they were
--- never opened.
+-- The files of a path after a check: Ok if they were checked, Err if the opening was refused, None if they were never
+-- opened.
 abbrev pub CheckedFiles : Type 0 → Type 0
 CheckedFiles D = Option (Result (Files D) (Files D))
 
--- The file could not be opened; or it was checked, whether that gave a result or not.
+-- The file could not be opened, or it was checked, with or without a result.
 abbrev pub ChecksPath : {D : Type 0} → Bool → disk.Ghosts D → Image → ℕ → Result CheckVerdict Unavailable
     → List Wrong → CheckedFiles D → Type 0
 ChecksPath {D} quick g image capacity checked further left =

@@ -1,4 +1,4 @@
--- The errors that are listed after the first.
+-- The errors that are listed after the first one.
 use Rattle.std.specs.Prelude.{◌≡◌, ◌<◌, ⊤, pos, true, List, [], length, Result, Ok, Err}
 use Rattle.std.specs.List.{AllByRecursion}
 use Rattle.sqlite_value.specs.Order.{Row}
@@ -6,14 +6,14 @@ use Rattle.sqlite_trees.specs.View.{Finds}
 use Rattle.life_store.specs.declared.store_fault.Unavailable.{Unavailable}
 use Rattle.life_store.specs.declared.kept.Deposit.{Deposit}
 use Rattle.life_store.specs.Stored.{IsFiled}
-use Rattle.life_check.specs.declared.judging.CheckVerdict.{CheckVerdict}
-use Rattle.life_check.specs.declared.judging.CheckVerdict.TheVariants.{Sound, SoundButForCounts, NotSound}
-use Rattle.life_check.specs.declared.judging.Wrong.{Wrong}
-use Rattle.life_check.specs.declared.judging.Wrong.TheVariants as wrong
+use Rattle.life_check.specs.declared.archive_check.CheckVerdict.{CheckVerdict}
+use Rattle.life_check.specs.declared.archive_check.CheckVerdict.TheVariants.{Sound, SoundButForCounts, NotSound}
+use Rattle.life_check.specs.declared.archive_check.Wrong.{Wrong}
+use Rattle.life_check.specs.declared.archive_check.Wrong.TheVariants as wrong
 use Rattle.life_check.specs.ReadState.{IsNamed, deposit_row}
 
--- The row of `deposits` with this number is not that of a deposit, or not of one that a request can ask for. Nothing is
--- said of censuses. Nothing else is listed.
+-- A listed error of a deposit is real: `deposits` has no row of a deposit with this number, or only one with an invalid
+-- member or token. Listed errors of censuses are not proved. Errors of other kinds are never listed.
 abbrev pub IsWrongThere : List Row → Wrong → Type 0
 IsWrongThere deposits (wrong.Deposit id) =
     (d : Deposit) → IsFiled d → Finds deposits (pos id) (deposit_row id d) true → ⊥
@@ -26,8 +26,8 @@ IsWrongThere deposits wrong.Tables = ⊥
 abbrev pub AreWrongThere : List Row → List Wrong → Type 0
 AreWrongThere deposits = AllByRecursion (IsWrongThere deposits)
 
--- The error is the layout's or a deposit's. The check then ended before the censuses, and the list continues with the
--- deposits after it. Where the tables are others than an archive's, nothing more is listed.
+-- The error is in `layout` or in a deposit. The check then ended before the censuses, and the list continues with the
+-- deposits after it. If the schema is wrong, nothing more is listed.
 abbrev pub IsBeforeCensuses : Wrong → Type 0
 IsBeforeCensuses wrong.Tables = ⊥
 IsBeforeCensuses wrong.Layout = ⊤
@@ -35,13 +35,13 @@ IsBeforeCensuses (wrong.Deposit id) = ⊤
 IsBeforeCensuses (wrong.DepositNames id) = ⊤
 IsBeforeCensuses (wrong.Census id) = ⊥
 
--- the same of a verdict
+-- the verdict is such an error
 abbrev pub StopsBeforeCensuses : CheckVerdict → Type 0
 StopsBeforeCensuses (Sound d c) = ⊥
 StopsBeforeCensuses (SoundButForCounts d c) = ⊥
 StopsBeforeCensuses (NotSound w) = IsBeforeCensuses w
 
--- with the first error of a check at most 100 are listed, and none otherwise
+-- at most 100 errors are listed, including the first; without an error, the list is empty
 abbrev pub AreFurther : Result CheckVerdict Unavailable → List Wrong → Type 0
 AreFurther (Ok (Sound d c)) listed = listed ≡ []
 AreFurther (Ok (SoundButForCounts d c)) listed = listed ≡ []

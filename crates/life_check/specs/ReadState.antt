@@ -1,4 +1,4 @@
--- The state while the rows of a table are read, and the results.
+-- Reading the rows of a table: the state, and the results.
 use Rattle.std.specs.Prelude.{◌≡◌, ◌≤◌, ◌+◌, ℕ, pos, Bool, false, List, [], ◌∷◌, ◌++◌, length, IsTrue}
 use Rattle.std.specs.List.{AllByRecursion}
 use Rattle.sqlite_value.specs.Order.{Row}
@@ -9,24 +9,23 @@ use Rattle.life_store.specs.Kept.{Tallied}
 use Rattle.life_store.specs.Stored.{IsFiled, rows_by, deposit_cells, census_cells, count_cells, flag_cells, flag_number}
 use Rattle.life_desk.specs.Validation.{is_member, is_token}
 
--- The first n rows are those of n elements, under the ids from 1 on, and P holds for each element. The other rows are
--- left.
+-- The first n rows represent n elements under the ids from 1 on, and P holds for each element. The other rows are left.
 pub record IsReadUpTo {X : Type 0} (f : X → Row) (P : X → Type 0) (n : ℕ) (rows left : List Row) : Type 0 where
   pub done : List X
   pub many : length done ≡ n
   pub good : AllByRecursion P done
   pub are : rows ≡ rows_by f 1 done ++ left
 
--- all rows are those of n elements, and P holds for each
+-- the rows represent exactly n elements, and P holds for each
 abbrev pub AreOf : {X : Type 0} → (X → Row) → (X → Type 0) → List Row → ℕ → Type 0
 AreOf {X} f P rows n = (xs : List X) × (rows ≡ rows_by f 1 xs) × AllByRecursion P xs × (length xs ≡ n)
 
--- no elements for which P holds have these rows
+-- these rows don't represent any list of elements for which P holds
 abbrev pub AreNone : {X : Type 0} → (X → Row) → (X → Type 0) → List Row → Type 0
 AreNone {X} f P rows = (xs : List X) → rows ≡ rows_by f 1 xs → AllByRecursion P xs → ⊥
 
--- The rows before the one with this number are those of elements for which P holds. It is there, and is that of no
--- element for which Q holds.
+-- The row with this number is the first wrong one. The rows before it represent elements for which P holds. It exists,
+-- and doesn't represent any element for which Q holds.
 pub record IsFirstWrong {X : Type 0} (f : X → Row) (P Q : X → Type 0) (rows : List Row) (id : ℕ) : Type 0 where
   pub before : ℕ
   pub number : id ≡ before + 1
@@ -39,16 +38,16 @@ pub record IsFirstWrong {X : Type 0} (f : X → Row) (P Q : X → Type 0) (rows 
 abbrev pub deposit_row : ℕ → Deposit → Row
 deposit_row id d = Int (pos id) ∷ deposit_cells d
 
--- a member and a token that a request may have
+-- a member and a token that are valid in a request
 abbrev pub AreNames : List ℕ → List ℕ → Type 0
 AreNames member token = IsTrue (is_member member) × IsTrue (is_token token)
 
--- a deposit that a request can ask for, with what a table keeps of it
+-- a deposit that a valid request can make, and that a table can store
 pub record IsNamed (d : Deposit) : Type 0 where
   pub filed : IsFiled d
   pub named : AreNames d.member d.token
 
--- the row is that of a deposit under this number
+-- the row represents a deposit under this number
 abbrev pub IsDepositRow : ℕ → Row → Type 0
 IsDepositRow id row = (d : Deposit) × IsFiled d × (row ≡ deposit_row id d)
 
@@ -60,7 +59,7 @@ census_row id t = Int (pos id) ∷ census_cells t
 abbrev pub count_row : ℕ → ℕ × (List ℕ × ℕ) → Row
 count_row at r = Int (pos at) ∷ count_cells r
 
--- the same, by a census and how many clusters there are, and how many of them have no code
+-- the row of a census, from its fields, how many clusters there are, and how many of them have no code
 abbrev pub census_row_of : ℕ → Census → ℕ → ℕ → Row
 census_row_of id c total unresolved = census_row id (record {
   census = c;
@@ -72,11 +71,11 @@ census_row_of id c total unresolved = census_row id (record {
 abbrev pub flag_row : ℕ → Tallied → Row
 flag_row id t = Int (pos id) ∷ flag_cells t
 
--- the same, by the flag
+-- the row of a flag, from the number of its census
 abbrev pub flag_row_of : ℕ → Bool → Row
 flag_row_of id steady = Int (pos id) ∷ Null ∷ Int (pos (flag_number steady)) ∷ []
 
--- a request can ask for it: its member and its token are valid, its generation and its limit in range
+-- the census's member and token are valid in a request, and its generation and its limit are in range
 pub record IsValidCensus (c : Census) : Type 0 where
   pub named : AreNames c.member c.token
   pub few : c.generation ≤ 2048

@@ -1,4 +1,4 @@
--- What the program prints of a check of the file of a path.
+-- The output of a check of the file at a path.
 use Rattle.std.specs.Prelude.{◌≡◌, ◌⊎◌, ◌∷◌, ◌++◌, [], ℕ, Bool, List, codes, Option, None, Some, Result, Ok}
 use Rattle.std.specs.Prelude.{Err}
 use Rattle.std.specs.Fmt.{decimal}
@@ -13,18 +13,18 @@ use Rattle.life_jobs.specs.declared.stop.Stop.TheVariants.{Unavailable, Unwritab
 use Rattle.life_jobs.specs.JobStop as jobs
 use Rattle.life_jobs.specs.Streams.{PutsOnce}
 use Rattle.life_store.specs.declared.store_fault.Unavailable.{Unavailable as Failed}
-use Rattle.life_check.specs.declared.judging.CheckVerdict.{CheckVerdict}
-use Rattle.life_check.specs.declared.judging.CheckVerdict.TheVariants.{Sound, SoundButForCounts, NotSound}
-use Rattle.life_check.specs.declared.judging.Wrong.{Wrong}
-use Rattle.life_check.specs.declared.judging.Wrong.TheVariants as wrong
+use Rattle.life_check.specs.declared.archive_check.CheckVerdict.{CheckVerdict}
+use Rattle.life_check.specs.declared.archive_check.CheckVerdict.TheVariants.{Sound, SoundButForCounts, NotSound}
+use Rattle.life_check.specs.declared.archive_check.Wrong.{Wrong}
+use Rattle.life_check.specs.declared.archive_check.Wrong.TheVariants as wrong
 use Rattle.life_check.specs.Files.{CheckedFiles, ChecksPath}
 use Rattle.life_check.specs.Listed.{AreFurther}
 use Rattle.life_check.specs.declared.report.CheckStop.{CheckStop}
 use Rattle.life_check.specs.declared.report.CheckStop.TheVariants as stops
 
--- ---- what is printed
+-- ---- the lines of a result
 
--- an error
+-- the sentence for an error; Deposit 7 gives "deposit 7: its row is wrong or missing"
 abbrev pub wrong_words : Wrong → List ℕ
 wrong_words wrong.Tables = codes "the tables are not those of an archive"
 wrong_words wrong.Layout = codes "layout: its row is wrong or missing"
@@ -33,33 +33,33 @@ wrong_words (wrong.DepositNames id) = codes "deposit " ++ decimal id ++ codes ":
 wrong_words (wrong.Census id) =
     codes "census " ++ decimal id ++ codes ": its row, its counts or its flag are wrong or missing"
 
--- its line
+-- the line of an error
 abbrev pub error_line : Wrong → List ℕ
 error_line w = wrong_words w ++ line_feed ∷ []
 
--- the result of a check
+-- the sentence for the result of a check, such as "sound: 2 deposits, 1 censuses"
 abbrev pub verdict_words : CheckVerdict → List ℕ
 verdict_words (Sound d c) = codes "sound: " ++ (decimal d ++ (codes " deposits, " ++ (decimal c ++ codes " censuses")))
 verdict_words (SoundButForCounts d c) =
     codes "sound but for counts: " ++ (decimal d ++ (codes " deposits, " ++ (decimal c ++ codes " censuses")))
 verdict_words (NotSound w) = wrong_words w
 
--- its line
+-- the line of a result
 abbrev pub verdict_line : CheckVerdict → List ℕ
 verdict_line v = verdict_words v ++ line_feed ∷ []
 
--- its line, and those of the errors after the first
+-- the line of a result, and a line for each error after the first
 abbrev pub checked_lines : CheckVerdict → List Wrong → List ℕ
 checked_lines v further = verdict_line v ++ flat_map error_line further
 
--- the answer once these were put
+-- the job's result after these lines were written
 abbrev pub answer_of : CheckVerdict → Result (Unit {0}) CheckStop
 answer_of (Sound d c) = Ok tt
 answer_of (SoundButForCounts d c) = Ok tt
 answer_of (NotSound w) = Err stops.NotSound
 
--- What is put and answered for the result and the errors after the first: their lines; a prefix of them, if a put
--- failed; or nothing, if memory ran out.
+-- The output and the job's result for a verdict and the further errors. It writes their lines, or a prefix of them if a
+-- write failed. Out of memory is Unavailable.
 abbrev pub PutsVerdict : CheckVerdict → List Wrong → Option (List ℕ) → Option (List ℕ)
     → Result (Unit {0}) CheckStop → Type 0
 PutsVerdict v further before after answer =
@@ -67,13 +67,13 @@ PutsVerdict v further before after answer =
     ⊎ (((answer ≡ Err (stops.Job Unwritable)) × AppendsSome before after (checked_lines v further))
     ⊎ (answer ≡ Err (stops.Job Unavailable)))
 
--- The same of a check that gave no result.
+-- The same, also for a check that gave no result.
 abbrev pub PutsChecked : Result CheckVerdict Failed → List Wrong → Option (List ℕ) → Option (List ℕ)
     → Result (Unit {0}) CheckStop → Type 0
 PutsChecked (Ok v) further before after answer = PutsVerdict v further before after answer
 PutsChecked (Err e) further before after answer = answer ≡ Err (stops.Job Unavailable)
 
--- the answer as the output sees it: the line of an unsound file was put
+-- the result of writing the output, for which an unsound file is a success: its lines were written
 abbrev pub by_output : Result (Unit {0}) CheckStop → Result (Unit {0}) Stop
 by_output (Ok done) = Ok done
 by_output (Err (stops.Job stop)) = Err stop
@@ -86,14 +86,14 @@ abbrev pub line_of : CheckStop → List ℕ
 line_of (stops.Job stop) = jobs.line_of stop
 line_of stops.NotSound = codes "refused: not-sound"
 
--- the line that is printed after an answer, if any
+-- the line on standard error after a job's result, if any
 abbrev pub line_after : Result (Unit {0}) CheckStop → Option (List ℕ)
 line_after (Ok done) = None
 line_after (Err stop) = Some (line_of stop)
 
 -- ---- the files of a path
 
--- The file could not be opened, and nothing was put; or it was checked, and what was found was put.
+-- The file was checked, or could not be opened, and the output is the result's.
 abbrev pub ChecksAt : {D : Type 0} → Bool → disk.Ghosts D → Image → ℕ → Option (List ℕ) → Option (List ℕ)
     → Result (Unit {0}) CheckStop → CheckedFiles D → Type 0
 ChecksAt quick g image capacity before after answer left =
@@ -101,7 +101,7 @@ ChecksAt quick g image capacity before after answer left =
     × ChecksPath quick g image capacity checked further left
     × AreFurther checked further × PutsChecked checked further before after answer
 
--- ---- what the program prints
+-- ---- the output of the program
 
 -- A check, with the line that is printed if it stops.
 pub record AnswersCheck {D O : Type 0} (quick : Bool) (g : disk.Ghosts D) (o : outlet.Ghosts O)

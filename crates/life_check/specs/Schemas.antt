@@ -1,4 +1,4 @@
--- What two tables have in common, in two parts.
+-- Two tables are equal if both of these hold.
 use Rattle.std.specs.Prelude.{◌≡◌}
 use Rattle.sqlite_schema.specs.declared.schema.Table.{Table}
 
@@ -11,7 +11,7 @@ pub record HaveSameColumns (a b : Table) : Type 0 where
   pub primary : a.primary ≡ b.primary
   pub counted : a.is_counted ≡ b.is_counted
 
--- what they ask of their rows, and the defaults that are no literals
+-- their constraints, and their defaults that are not literals
 pub record HaveSameRules (a b : Table) : Type 0 where
   pub uniques : a.uniques ≡ b.uniques
   pub orders : a.orders ≡ b.orders

@@ -9,15 +9,14 @@ use Rattle.life_store.specs.Stored.{IsFiled, rows_by, deposit_cells, census_cell
 use Rattle.life_store.specs.Tables.{Tables, ArchiveView, version_2}
 use Rattle.life_desk.specs.Archive.{Archive, AddsUp}
 use Rattle.life_desk.specs.Represents.{Represents, EachHasDeposit}
-use Rattle.life_check.specs.declared.judging.CheckVerdict.{CheckVerdict}
-use Rattle.life_check.specs.declared.judging.CheckVerdict.TheVariants.{Sound, SoundButForCounts, NotSound}
-use Rattle.life_check.specs.declared.judging.Wrong.{Wrong}
-use Rattle.life_check.specs.declared.judging.Wrong.TheVariants as wrong
+use Rattle.life_check.specs.declared.archive_check.CheckVerdict.{CheckVerdict}
+use Rattle.life_check.specs.declared.archive_check.CheckVerdict.TheVariants.{Sound, SoundButForCounts, NotSound}
+use Rattle.life_check.specs.declared.archive_check.Wrong.{Wrong}
+use Rattle.life_check.specs.declared.archive_check.Wrong.TheVariants as wrong
 use Rattle.life_check.specs.ReadState.{AreOf, AreNone, AreNames, IsValidCensus, IsNamed, IsFirstWrong}
 use Rattle.life_check.specs.CountState.{AreFiled, AreCounted, AreTallied, IsFirstWrongCensus}
 
--- The result for the trees: they are those of this many deposits and this many censuses, correctly counted unless the
--- check is quick.
+-- The trees represent this many deposits and this many censuses, which are correctly counted unless the check is quick.
 pub record AreSound (quick : Bool) (trees : Trees) (deposits censuses : ℕ) : Type 0 where
   pub version : trees 0 ≡ version_2
   pub filed : AreOf deposit_cells IsNamed (trees 1) deposits
@@ -25,8 +24,8 @@ pub record AreSound (quick : Bool) (trees : Trees) (deposits censuses : ℕ) : T
   pub few_censuses : censuses < 2 ^ 63
   pub counted : (ds : List Deposit) → AreFiled trees ds → AreCounted quick trees ds censuses
 
--- The first error in them: what comes before it is as in an archive, and no archive has these rows. Trees have no
--- columns, so it is none of the tables'.
+-- The first error in the trees: the rows before it are right, and an archive never has these rows. A wrong schema
+-- doesn't show in trees, so it is not found here.
 abbrev pub FindsWrong : Bool → Trees → Wrong → Type 0
 FindsWrong quick trees wrong.Tables = ⊥
 FindsWrong quick trees wrong.Layout = trees 0 ≢ version_2
@@ -46,23 +45,23 @@ FindsSound quick trees (Sound d c) = AreSound quick trees d c × (quick ≡ fals
 FindsSound quick trees (SoundButForCounts d c) = AreSound quick trees d c × (quick ≡ true)
 FindsSound quick trees (NotSound w) = FindsWrong quick trees w
 
--- requests can ask for each deposit and each census
+-- the fields of each deposit and each census are valid in a request
 pub record IsAskedFor (A : Archive) : Type 0 where
   pub deposits : AllByRecursion (λ d. AreNames d.member d.token) A.deposits
   pub censuses : AllByRecursion IsValidCensus A.censuses
 
--- no two have the same member and the same token
+-- elements with the same member and the same token are at the same index
 abbrev pub AreUnique : {X : Type 0} → (X → List ℕ × List ℕ) → List X → Type 0
 AreUnique {X} names xs =
     (i j : ℕ) (x y : X) → slice_get xs i ≡ Some x → slice_get xs j ≡ Some y → names x ≡ names y → i ≡ j
 
--- A member's token is that of one deposit, and that of one census. The two are independent.
+-- A member's token belongs to at most one deposit and at most one census. The two are independent.
 pub record HasUniqueTokens (A : Archive) : Type 0 where
   pub deposits : AreUnique (λ d. (d.member, d.token)) A.deposits
   pub censuses : AreUnique (λ c. (c.member, c.token)) A.censuses
 
--- The tables represent these deposits and these censuses, as `Holds` says it, but that the rows of a tally may be in
--- any order.
+-- The tables represent these deposits and these censuses as in `Holds`, except that the rows of a tally may be in any
+-- order.
 pub record HoldsInAnyOrder (t : Tables) (k : Kept) : Type 0 where
   pub schema : t.schema ≡ archive_schema
   pub committed : t.in_transaction ≡ false
@@ -75,8 +74,8 @@ pub record HoldsInAnyOrder (t : Tables) (k : Kept) : Type 0 where
   pub few_deposits : length k.deposits < 2 ^ 63
   pub few_censuses : length k.censuses < 2 ^ 63
 
--- The tables represent the archive but for the counts of its censuses: each has some tally that adds up, and some flag.
--- The order of a tally's rows is not looked at.
+-- The tables represent the archive except for its tallies and flags: each census has some tally that adds up, and some
+-- flag. The rows of a tally may be in any order.
 pub record RepresentsButForCounts {S : Type 0} (a : ArchiveView S) (A : Archive) : Type 0 where
   pub capacity : a.capacity ≡ A.capacity
   pub each : EachHasDeposit A.deposits A.censuses
@@ -85,12 +84,12 @@ pub record RepresentsButForCounts {S : Type 0} (a : ArchiveView S) (A : Archive)
   pub add_up : AllByRecursion (λ t. AddsUp t.tally) counts
   pub holds : HoldsInAnyOrder a.tables (record { deposits = A.deposits; censuses = counts })
 
--- The tables have the columns and indexes of an archive's, and the rows of `layout`.
+-- The schema is an archive's, and `layout` names version 2.
 pub record HaveLayout (t : Tables) : Type 0 where
   pub schema : t.schema ≡ archive_schema
   pub layout : t.layout ≡ version_2
 
--- The first error is there: all that is looked at before it is as in an archive.
+-- This is the first error: everything that a check reads before it is right.
 abbrev pub IsFirstError : Bool → Tables → Wrong → Type 0
 IsFirstError quick t wrong.Tables = t.schema ≢ archive_schema
 IsFirstError quick t wrong.Layout = (t.schema ≡ archive_schema) × (t.layout ≢ version_2)
@@ -100,7 +99,7 @@ IsFirstError quick t (wrong.Census id) =
     HaveLayout t × (ds : List Deposit) × (t.deposits ≡ rows_by deposit_cells 1 ds) × AllByRecursion IsNamed ds
     × IsFirstWrongCensus quick t.censuses t.census_rows t.census_flags ds id
 
--- No archive is represented, or none of what requests can ask for.
+-- The tables don't represent an archive or, for the last two errors, one that valid requests can make.
 abbrev pub AreNoArchive : {S : Type 0} → ArchiveView S → Wrong → Type 0
 AreNoArchive a wrong.Tables = (A : Archive) → Represents a A → ⊥
 AreNoArchive a wrong.Layout = (A : Archive) → Represents a A → ⊥
@@ -108,12 +107,12 @@ AreNoArchive a (wrong.Deposit id) = (A : Archive) → Represents a A → ⊥
 AreNoArchive a (wrong.DepositNames id) = (A : Archive) → IsAskedFor A → Represents a A → ⊥
 AreNoArchive a (wrong.Census id) = (A : Archive) → IsAskedFor A → Represents a A → ⊥
 
--- the same, and the error that is named is the first
+-- the same, and this error is the first one
 abbrev pub RepresentsNone : {S : Type 0} → Bool → ArchiveView S → Wrong → Type 0
 RepresentsNone quick a w = AreNoArchive a w × IsFirstError quick a.tables w
 
--- the tables represent an archive with this many deposits and censuses, but for its counts if the check is quick; or no
--- archive
+-- the tables represent an archive with this many deposits and censuses, apart from its counts if the check is quick, or
+-- they don't represent an archive
 abbrev pub RepresentsSome : {S : Type 0} → Bool → ArchiveView S → CheckVerdict → Type 0
 RepresentsSome quick a (Sound d c) =
     (A : Archive) × Represents a A × (length A.deposits ≡ d) × (length A.censuses ≡ c) × IsAskedFor A

@@ -1,6 +1,6 @@
 //! Reporting the progress of a check.
 
-/// Receives the progress of a check. Nothing that the check returns depends on it.
+/// Receives the progress of a check, for a display. The result of the check doesn't depend on it.
 pub trait CheckWatch {
     /// Called when this many rows of deposits are read.
     fn deposits_read(&mut self, count: u64);

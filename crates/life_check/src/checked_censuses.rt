@@ -1,4 +1,4 @@
-//! Reading the tables of censuses, of the rows of their tallies, and of their flags side by side.
+//! Reading three tables in step: the censuses, the rows of their tallies, and their flags.
 
 ghost use Rattle.std.specs.Prelude.{◌≡◌, ◌<◌, ◌≤◌, ◌^◌, ◌+◌, ℕ, Bool, List, [], ◌∷◌, length, map, sum_by, true, false, IsSome, None, Some, IfOk, IfSome, OnOk, IsTrue};
 ghost use Rattle.sqlite_trees.specs.View.{IsClean, StayLive};
@@ -25,7 +25,7 @@ use sqlite::Alter;
 use sqlite_value::row::Row;
 use std::alloc::Global;
 
-/// The numbers of the tables' trees; the numbers between them belong to their indexes.
+/// The numbers of the tables' trees, as `sqlite` assigns them in a new archive. The numbers between them are indexes.
 pub(crate) const CENSUSES: u32 = 3;
 
 pub(crate) const CENSUS_ROWS: u32 = 5;
@@ -54,8 +54,8 @@ fn deposit_at<S: Alter>(
     deposit_of_row(alloc, &row, id)
 }
 
-/// The deposit with the number: the one that was read last, if that is it, so that the censuses of one deposit that follow one another
-/// read and parse it once.
+/// The deposit with the number. If it was the last one read, it is reused: consecutive censuses of one deposit read and
+/// parse it only once.
 fn deposit_from<S: Alter>(
     store: &mut S,
     alloc: Global,
@@ -76,7 +76,7 @@ fn deposit_from<S: Alter>(
     }
 }
 
-/// Whether there is a deposit with the number.
+/// Whether the table of deposits has a row with the number. The row is not parsed.
 fn has_deposit<S: Alter>(store: &mut S, alloc: Global, id: u64) -> Result<bool, Unavailable>
     ensures there { IsClean (S.Store.view store.new) → IfOk result (λ b. IsTrue b → (ds : List Given) → AreFiled (S.Store.view store.old).trees ds → IsSome (numbered ds id)) }
     ensures other { IsClean (S.Store.view store.new) → IfOk result (λ b. b ≡ false → (ds : List Given) → AreFiled (S.Store.view store.old).trees ds → IsSome (numbered ds id) → ⊥) }
@@ -91,7 +91,8 @@ fn has_deposit<S: Alter>(store: &mut S, alloc: Global, id: u64) -> Result<bool, 
     get(store, DEPOSITS, rowid, &mut row)
 }
 
-/// Whether the next rows of tallies, after this many, are those of the census with the number; returns how many rows were read then.
+/// Compares the next rows of tallies with the census's rows. If they are equal, returns how many rows have been read in
+/// all; `before` is how many were read before.
 fn rows_follow<S: Alter>(
     store: &mut S,
     alloc: Global,
@@ -122,7 +123,7 @@ fn rows_follow<S: Alter>(
     Ok(Some(at))
 }
 
-/// Whether the next flag is this one of the census of the number.
+/// Whether the next row of flags has the census's number and this flag.
 fn flag_follows<S: Alter>(
     store: &mut S,
     alloc: Global,
@@ -142,8 +143,8 @@ fn flag_follows<S: Alter>(
     is_of_flag(alloc, &row, id, steady)
 }
 
-/// The count in the next row of tallies, if it is the row at this place of a tally of the census with the number, with one cluster or
-/// more.
+/// The count in the next row of tallies. `None` unless the row belongs to the census, has this rowid, and counts at
+/// least one cluster.
 fn count_follows<S: Alter>(
     store: &mut S,
     alloc: Global,
@@ -176,8 +177,8 @@ fn count_follows<S: Alter>(
     Ok(Some(count))
 }
 
-/// Whether the next rows of tallies, after this many, have the number of the census and these clusters in all; returns how many rows
-/// were read then.
+/// Reads rows of the census's tally until their counts reach `clusters`. If the sum is exact, returns how many rows
+/// have been read in all; `before` is how many were read before.
 fn clusters_follow<S: Alter>(
     store: &mut S,
     alloc: Global,
@@ -209,7 +210,7 @@ fn clusters_follow<S: Alter>(
     Ok(Some(at))
 }
 
-/// Whether the next flag is one of the census with the number.
+/// Whether the next row of flags has the census's number, with either flag.
 fn some_flag_follows<S: Alter>(store: &mut S, alloc: Global, id: u64) -> Result<bool, Unavailable>
     requires { IsSome ((S.Store.view store.old).cursors 2) }
     ensures follow { IsClean (S.Store.view store.new) → IfOk result (λ b. IsTrue b → (steady : Bool) × Takes 2 (flag_row_of id steady ∷ []) (S.Store.view store.old) (S.Store.view store.new)) }
@@ -227,8 +228,8 @@ fn some_flag_follows<S: Alter>(store: &mut S, alloc: Global, id: u64) -> Result<
     is_of_flag(alloc, &row, id, false)
 }
 
-/// Whether the row is that of the census under the number, counted from its deposit, and its rows and its flag are next; returns how many
-/// rows of tallies were read then.
+/// Counts the census again from its deposit, and compares its row, its tally's rows and its flag. If all are equal,
+/// returns how many rows of tallies have been read in all.
 fn counted_follows<S: Alter>(
     store: &mut S,
     alloc: Global,
@@ -267,7 +268,7 @@ fn counted_follows<S: Alter>(
     Ok(Some(more))
 }
 
-/// The same, without counting: the rows and the flag may be those of another tally.
+/// The same for a quick check, which doesn't count: the tally only has to add up, and the flag may be either.
 fn uncounted_follows<S: Alter>(
     store: &mut S,
     alloc: Global,
@@ -305,8 +306,9 @@ fn uncounted_follows<S: Alter>(
     Ok(Some(more))
 }
 
-/// Whether the row is that of a census under the number, and its rows and its flag are next; returns how many rows of tallies were read
-/// then. The census is counted from its deposit, unless the check is quick. `last` is the deposit that was read last.
+/// Checks the census in this row with the next rows of tallies and the next flag. If all are right, returns how many
+/// rows of tallies have been read in all. The census is counted from its deposit, unless the check is quick. `last` is
+/// the deposit that was read last.
 pub(crate) fn census_follows<S: Alter>(
     store: &mut S,
     alloc: Global,
@@ -340,7 +342,7 @@ pub(crate) fn census_follows<S: Alter>(
     counted_follows(store, alloc, row, id, &census, before, last)
 }
 
-/// Whether no rows of tallies and no flags are left.
+/// Whether the tables of tallies' rows and of flags end here, as they must after the last census.
 pub(crate) fn none_left<S: Alter>(store: &mut S, alloc: Global) -> Result<bool, Unavailable>
     requires rows { IsSome ((S.Store.view store.old).cursors 1) }
     requires flags { IsSome ((S.Store.view store.old).cursors 2) }
@@ -370,7 +372,7 @@ fn begin_all<S: Alter>(store: &mut S, alloc: Global) -> Result<(), Unavailable>
     begin(store, alloc, 2, CENSUS_FLAGS)
 }
 
-/// Reads all rows of the three tables. A quick check skips the counting.
+/// Reads all rows of the three tables up to the first error. A quick check skips the counting.
 pub(crate) fn censuses<S: Alter, W: CheckWatch>(
     store: &mut S,
     alloc: Global,

@@ -1,4 +1,4 @@
-//! The table of deposits.
+//! Reading the table of deposits.
 
 ghost use Rattle.std.specs.Prelude.{◌≡◌, IfOk, OnOk};
 ghost use Rattle.sqlite_trees.specs.View.{IsClean};
@@ -12,13 +12,13 @@ use sqlite::Alter;
 use sqlite_value::row::Row;
 use std::alloc::Global;
 
-/// The number of the table's tree.
+/// The number of the table's tree, as `sqlite` assigns it in a new archive.
 pub(crate) const DEPOSITS: u32 = 1;
 
-/// A number is an integer of SQL.
+/// The greatest integer of SQL, which limits the numbers of deposits and censuses.
 pub(crate) const LAST: u64 = 0x7fff_ffff_ffff_ffff;
 
-/// Reads all rows.
+/// Reads all rows up to the first error. Each has to be exactly the row that an archive writes under its number.
 pub(crate) fn deposits<S: Alter, W: CheckWatch>(
     store: &mut S,
     alloc: Global,

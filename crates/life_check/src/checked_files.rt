@@ -1,4 +1,4 @@
-//! Checking the file of a path.
+//! Checking the database file at a path.
 
 ghost use Rattle.std.specs.Prelude.{◌≡◌, List, IfOk, IsTrue};
 ghost use Rattle.sqlite_value.specs.Order.{Row};
@@ -13,15 +13,15 @@ ghost use Rattle.life_check.specs.Files.{EndsCheck, ChecksPath};
 ghost use Rattle.life_check.specs.Listed.{AreFurther, AreWrongThere, StopsBeforeCensuses};
 ghost use Rattle.life_check.specs.Sound.{RepresentsSome};
 
+use crate::archive_check::{CheckVerdict, Wrong, check};
 use crate::check_watch::CheckWatch;
-use crate::judging::{CheckVerdict, Wrong, check};
 use crate::listing::further_errors;
 use life_store::{Archive, Unavailable};
 use sqlite::{Alter, FileFrom, FileStore, Start};
 use sqlite_disk::{Disk, Files};
 use std::alloc::Global;
 
-/// The errors after the first of a check, if it found one.
+/// The errors after the first one, if the check found any. This reads the rows again.
 fn errors_of<S: Alter, W: CheckWatch>(
     store: &mut S,
     alloc: Global,
@@ -57,7 +57,7 @@ fn check_and_list<S: Alter + Drop, W: CheckWatch>(
     ensures calm { IsCalm S.Store archive.store result.2 }
     ensures numbered { IsClean (S.Store.view result.2) → IsTrue (S.Store.view result.2).is_numbered }
     ensures databases { IsClean (S.Store.view result.2) → AreDatabases (S.Store.recovers result.2) }
-    // Two laws of the archive too, so that a caller passes on the traits of its store once.
+    // Includes two laws of the archive, so that callers pass on the traits of the store only once.
     ensures crash { IsTrue archive.tables.is_healthy → (k : Kept) → Holds archive.tables k → (db : Trees) → S.Store.recovers archive.store db → TreesHold db k }
     ensures was_open { IsTrue archive.tables.is_healthy → IsTrue (S.Store.view archive.store).is_open }
 {
@@ -68,7 +68,8 @@ fn check_and_list<S: Alter + Drop, W: CheckWatch>(
     (checked, further, store)
 }
 
-/// Checks an archive over files and lets it go. Nothing is written, and the log is not copied into the database file.
+/// Checks an archive over files and returns the files. Nothing is written, and the log is not copied into the database
+/// file.
 fn check_opened<D: Disk + Drop, W: CheckWatch>(
     alloc: Global,
     archive: Archive<FileStore<D>>,
@@ -83,12 +84,14 @@ fn check_opened<D: Disk + Drop, W: CheckWatch>(
     (checked, further, store.close())
 }
 
-/// The files of a path after a check: checked; given up after a refused opening; or never opened.
+/// The files of a path after a check: `Ok` if they were checked, `Err` if the opening was refused, and `None` if they
+/// were never opened.
 pub type CheckedFiles<T> = Option<Result<Files<FileFrom<T>>, Files<FileFrom<T>>>>;
 
-/// Checks the file of the path, with its log; returns the result, the errors after the first, and the files. They hold the database
-/// that they held, whosever it is, even if the check gave no result. A log that was not there before is removed again. `start` says what the
-/// files are taken to hold, as for `Archive::open_path`. A quick check counts no census.
+/// Checks the file at the path, with its log. Returns the result, the errors after the first, and the files. These hold
+/// the same database as before, archive or not, even if the check gave no result. A log that the check made is removed
+/// again. `start` states the assumed contents of the files, as for `Archive::open_path`. A quick check skips the
+/// counting.
 pub fn check_path<T: Start, W: CheckWatch>(
     rt: &HostRuntime,
     path: &str,

@@ -1,4 +1,5 @@
-//! Rows as an archive writes them, and reading the values of a row. A value that an archive never writes gives `None`.
+//! Rows as an archive writes them, and reading the values of a row. The result is `None` for a value that an archive
+//! never writes, which a check reports; only a failure is an `Err`.
 
 ghost use Rattle.std.specs.Prelude.{◌≡◌, ◌<◌, ◌≤◌, ◌^◌, ◌↔◌, ℕ, pos, List, Ok, None, Some, false, IfOk, IfSome, OnOk, IsTrue};
 ghost use Rattle.sqlite_value.specs.declared.value.Value.TheVariants.{Int, Text as Words, Blob};
@@ -29,7 +30,7 @@ pub(crate) fn text_at(alloc: Global, row: &Row, at: usize) -> Result<Option<Text
     }
 }
 
-/// The record of a file.
+/// The record of a stored pattern file. `None` if it is invalid.
 fn record_at(alloc: Global, row: &Row, at: usize) -> Result<Option<Record>, Unavailable>
     ensures value { (c : Contents) → kept (text c) ≡ Ok c → column row.now at ≡ Blob (text c) → IfOk result (λ o. o ≡ Some c) }
     ensures inside { IfOk result (λ o. IfSome o (λ c. IsInside 1024 c.cells)) }
@@ -44,7 +45,7 @@ fn record_at(alloc: Global, row: &Row, at: usize) -> Result<Option<Record>, Unav
     }
 }
 
-/// The deposit in a row, which may be another deposit's row.
+/// The deposit that a row seems to have. Its other columns are not checked here.
 fn deposit_in(alloc: Global, row: &Row) -> Result<Option<Deposit>, Unavailable>
     ensures value { (id : ℕ) (d : Given) → IsFiled d → row.now ≡ deposit_row id d → IfOk result (λ o. o ≡ Some d) }
     ensures inside { IfOk result (λ o. IfSome o (λ d. IsInside 1024 d.content.cells)) }
@@ -65,7 +66,7 @@ fn deposit_in(alloc: Global, row: &Row) -> Result<Option<Deposit>, Unavailable>
     }))
 }
 
-/// The row of the deposit under the number.
+/// The row that an archive writes for the deposit under the number.
 fn row_of_deposit(alloc: Global, id: i64, deposit: &Deposit) -> Result<Row, Unavailable>
     requires { IsInside 1024 deposit.now.content.cells }
     ensures row { IfOk result (λ r. (n : ℕ) → id ≡ pos n → r ≡ deposit_row n deposit.now) }
@@ -87,7 +88,7 @@ fn row_of_deposit(alloc: Global, id: i64, deposit: &Deposit) -> Result<Row, Unav
     Ok(row)
 }
 
-/// The deposit whose row this is, under the number; `None` if it is not a deposit's row.
+/// The deposit in a row. `None` unless the row is exactly the one that an archive writes for it under the number.
 pub(crate) fn deposit_of_row(
     alloc: Global,
     row: &Row,
@@ -113,14 +114,14 @@ pub(crate) fn deposit_of_row(
     }
 }
 
-/// Whether a request can have this member and this token.
+/// Whether the member and the token are valid in a request.
 pub(crate) fn are_valid_names(member: &Text, token: &Text) -> bool
     ensures { IsTrue result ↔ AreNames member.now token.now }
 {
     check_deposit(member.as_bytes(), token.as_bytes()).is_ok()
 }
 
-/// Whether a request can ask for the census.
+/// Whether a request for the census would be valid: its member, token, generation and limit are.
 pub(crate) fn is_askable(census: &Census) -> bool
     ensures { IsTrue result ↔ IsValidCensus census.now }
 {
@@ -130,7 +131,7 @@ pub(crate) fn is_askable(census: &Census) -> bool
         && census.limit <= PERIOD_LIMIT
 }
 
-/// A number of the row.
+/// A number in the row: an INTEGER that is not negative.
 pub(crate) fn number_at(row: &Row, at: usize) -> Option<u64>
     ensures { (n : ℕ) → column row.now at ≡ Int (pos n) → result ≡ Some n }
 {
@@ -140,7 +141,7 @@ pub(crate) fn number_at(row: &Row, at: usize) -> Option<u64>
     }
 }
 
-/// A number of 32 bits.
+/// A number of at most 32 bits: a generation or a limit.
 fn small_at(row: &Row, at: usize) -> Option<u32>
     ensures { (n : ℕ) → n < 2 ^ 32 → column row.now at ≡ Int (pos n) → result ≡ Some n }
 {
@@ -150,7 +151,7 @@ fn small_at(row: &Row, at: usize) -> Option<u32>
     }
 }
 
-/// The census in a row, which may be another census's row.
+/// The census that a row seems to have. Its other columns are not checked here.
 pub(crate) fn census_in(alloc: Global, row: &Row) -> Result<Option<Census>, Unavailable>
     ensures { (id : ℕ) (t : Tallied) → IsValidCensus t.census → row.now ≡ census_row id t → IfOk result (λ o. o ≡ Some t.census) }
 {
@@ -178,7 +179,7 @@ pub(crate) fn census_in(alloc: Global, row: &Row) -> Result<Option<Census>, Unav
     }))
 }
 
-/// The row of the census under the number.
+/// The row that an archive writes for the census under the number.
 fn row_of_census(
     alloc: Global,
     id: i64,
@@ -208,7 +209,7 @@ fn row_of_census(
     Ok(row)
 }
 
-/// Whether the row is that of the census under the number, with this many clusters.
+/// Whether the row is exactly the one that an archive writes for the census, with these totals.
 pub(crate) fn is_of_census(
     alloc: Global,
     row: &Row,
@@ -226,7 +227,8 @@ pub(crate) fn is_of_census(
     Ok(row.is_same(&written))
 }
 
-/// Whether the row is that of a count in the tally of the census with the number, at this place.
+/// Whether the row is exactly the one that an archive writes for this count, with the rowid `at` and the census's
+/// number.
 pub(crate) fn is_of_count(
     alloc: Global,
     row: &Row,
@@ -249,7 +251,7 @@ pub(crate) fn is_of_count(
     Ok(row.is_same(&written))
 }
 
-/// Whether the row is that of the flag of the census with the number.
+/// Whether the row is exactly the one that an archive writes for the census's flag.
 pub(crate) fn is_of_flag(
     alloc: Global,
     row: &Row,

@@ -1,4 +1,5 @@
-//! Listing the errors of an archive after the first one. Each row is looked up by its number, so that a wrong row hides no other.
+//! Listing the errors of an archive after the first one. Each row is looked up by its number, so that a wrong row
+//! doesn't hide the others.
 
 ghost use Rattle.std.specs.Prelude.{◌≡◌, ◌<◌, ◌≤◌, ◌+◌, List, length, IsSome, IfOk, IfSome, OnOk};
 ghost use Rattle.sqlite_trees.specs.View.{IsClean, StayLive};
@@ -6,11 +7,11 @@ ghost use Rattle.life_check.specs.WalkState.{IsCalm};
 ghost use Rattle.life_check.specs.Listed.{IsWrongThere, AreWrongThere, IsBeforeCensuses};
 ghost use Rattle.sqlite_value.specs.Order.{Row as Values};
 
+use crate::archive_check::Wrong;
 use crate::check_watch::CheckWatch;
 use crate::checked_censuses::{CENSUS_FLAGS, CENSUS_ROWS, CENSUSES, census_follows, none_left};
 use crate::checked_deposits::{DEPOSITS, LAST};
 use crate::checked_rows::{are_valid_names, deposit_of_row, number_at};
-use crate::judging::Wrong;
 use crate::walk::{get, next};
 use life_store::{Deposit, Unavailable};
 use sqlite::Alter;
@@ -19,7 +20,7 @@ use sqlite_value::row::Row;
 use sqlite_value::value::ValueRef;
 use std::alloc::Global;
 
-/// The greatest number of errors that a check lists, with the first.
+/// The most errors that a check lists, including the first.
 const MOST_ERRORS: usize = 100;
 
 /// Places the cursor before the row with the number, or before the next one if there is no such row.
@@ -101,7 +102,7 @@ fn add(errors: &mut Vec<Wrong>, error: Option<Wrong>) -> Result<(), Unavailable>
     }
 }
 
-/// Adds the errors of the deposits with numbers above `after`. If rows can't be read, those before them are added.
+/// Adds the errors of the deposits with numbers above `after`. If reading fails, the errors found so far stay.
 fn add_deposits<S: Alter, W: CheckWatch>(
     store: &mut S,
     alloc: Global,
@@ -126,7 +127,8 @@ fn add_deposits<S: Alter, W: CheckWatch>(
     Ok(())
 }
 
-/// The place of the last row of a tally before those of the census with the number, among the rows after the place `from`.
+/// The rowid after which the tally of the census should begin. It passes the rows after `from` that belong to earlier
+/// censuses.
 fn place_before<S: Alter>(
     store: &mut S,
     alloc: Global,
@@ -156,7 +158,8 @@ fn place_before<S: Alter>(
     Err(Unavailable)
 }
 
-/// Whether the census with the number is one, with the rows of its tally after the place `before`; returns the place of the last of them.
+/// Checks the census with the number, whose tally's rows begin after the rowid `before`. If all are right, returns the
+/// rowid of the last of them.
 fn census_at<S: Alter>(
     store: &mut S,
     alloc: Global,
@@ -179,7 +182,8 @@ fn census_at<S: Alter>(
     census_follows(store, alloc, quick, &row, id, before, &mut last)
 }
 
-/// Like [`census_at`], and adds an error if there is no such census; then the rows of the next one are looked for.
+/// Checks the census like [`census_at`]. If it is wrong, adds an error and searches for the rows of the next census.
+/// Returns the rowid before these.
 fn pass_census<S: Alter>(
     store: &mut S,
     alloc: Global,
@@ -200,7 +204,7 @@ fn pass_census<S: Alter>(
     place_before(store, alloc, id.saturating_add(1), before)
 }
 
-/// Adds an error if rows of tallies or flags are left after the last census, whose rows end at the place `before`.
+/// Adds an error if rows of tallies or flags are left after the last census, whose rows end at the rowid `before`.
 fn add_rows_left<S: Alter>(
     store: &mut S,
     alloc: Global,
@@ -256,7 +260,8 @@ fn add_censuses<S: Alter, W: CheckWatch>(
     add_rows_left(store, alloc, last, before, errors)
 }
 
-/// The number of the last deposit that needs no second look after the first error, if some are left to look at.
+/// The number after which deposits still have to be checked, given the first error. `None` if all were checked, or if
+/// the schema is wrong.
 fn deposits_after(first: Wrong) -> Option<u64>
     ensures { IsSome result → IsBeforeCensuses first }
 {
@@ -267,7 +272,8 @@ fn deposits_after(first: Wrong) -> Option<u64>
     }
 }
 
-/// The number of the last census that needs no second look after the first error, if rows can be read at all.
+/// The number after which censuses still have to be checked, given the first error. `None` if the schema is wrong,
+/// since then rows can't be read.
 fn censuses_after(first: Wrong) -> Option<u64> {
     match first {
         Wrong::Census(id) => Some(id),
@@ -276,7 +282,7 @@ fn censuses_after(first: Wrong) -> Option<u64> {
     }
 }
 
-/// Adds the errors after the first. If rows can't be read, those before them are added.
+/// Adds the errors after the first one. If reading fails, the errors found so far stay.
 fn add_further<S: Alter, W: CheckWatch>(
     store: &mut S,
     alloc: Global,
@@ -299,8 +305,8 @@ fn add_further<S: Alter, W: CheckWatch>(
     add_censuses(store, alloc, quick, after, errors, watch)
 }
 
-/// The errors of an archive after the first, in the order of the numbers, deposits before censuses; with it at most 100. Deposits and censuses with
-/// numbers up to that of the first error are not looked at again. If rows can't be read, the list ends before them.
+/// The errors of an archive after the first one, in the order of the numbers, deposits before censuses. With the first
+/// there are at most 100. Items up to the first error are not checked again. If reading fails, the list ends there.
 pub fn further_errors<S: Alter, W: CheckWatch>(
     store: &mut S,
     alloc: Global,

@@ -1,4 +1,4 @@
-//! Printing what a check of the file of a path finds.
+//! Printing the result of checking the file at a path.
 ghost use Rattle.std.specs.Prelude.{◌≡◌, ◌∷◌, ◌++◌, [], Err, IfOk, IfErr, OnOk};
 ghost use Rattle.std.specs.List.{flat_map};
 ghost use Rattle.life_core.specs.Ascii.{line_feed};
@@ -6,9 +6,9 @@ ghost use Rattle.sqlite_wal.specs.Files.{image_at};
 ghost use Rattle.life_jobs.specs.Streams.{PutsText, PutsOnce};
 ghost use Rattle.life_check.specs.Report.{line_of, wrong_words, error_line, verdict_words, verdict_line, checked_lines, answer_of, PutsChecked, by_output, ChecksAt};
 
+use crate::archive_check::{CheckVerdict, Wrong};
 use crate::check_watch::CheckWatch;
 use crate::checked_files::{CheckedFiles, check_path};
-use crate::judging::{CheckVerdict, Wrong};
 use life_jobs::{Stop, put_text};
 use life_rle::Outlet;
 use life_store::Unavailable;
@@ -19,9 +19,9 @@ use std::alloc::{AllocError, Global};
 /// Why a check stopped.
 #[derive(Clone, Copy, Debug, PartialEq, Eq)]
 pub enum CheckStop {
-    /// A stop that a job without an archive may have too.
+    /// A stop that other jobs share: out of memory, or the store or the output failed.
     Job(Stop),
-    /// The file was checked, and is not an archive as this program writes it.
+    /// The file was checked, and is not an archive as this program writes it. The output has the errors.
     NotSound,
 }
 
@@ -37,7 +37,7 @@ impl CheckStop {
     }
 }
 
-/// An error, in words.
+/// The sentence for an error, without a line end. A wrong name has the same sentence as any wrong row of a deposit.
 fn wrong_words(alloc: Global, wrong: Wrong) -> Result<Vec<u8>, AllocError>
     ensures { IfOk result (λ v. v.items ≡ wrong_words wrong) }
 {
@@ -73,7 +73,7 @@ fn push_errors(alloc: Global, errors: &[Wrong], lines: &mut Vec<u8>) -> Result<(
     Ok(())
 }
 
-/// The result of a check, in words.
+/// The sentence for the result of a check, without a line end.
 fn verdict_words(alloc: Global, verdict: CheckVerdict) -> Result<Vec<u8>, AllocError>
     ensures { IfOk result (λ v. v.items ≡ verdict_words verdict) }
 {
@@ -101,7 +101,7 @@ fn verdict_line(alloc: Global, verdict: CheckVerdict) -> Result<Vec<u8>, AllocEr
     Ok(line)
 }
 
-/// The line of the result, and those of the errors after the first.
+/// The line of the result, and a line for each error after the first.
 fn checked_lines(
     alloc: Global,
     verdict: CheckVerdict,
@@ -114,7 +114,7 @@ fn checked_lines(
     Ok(lines)
 }
 
-/// The answer once the lines of the result were put.
+/// The job's result after its lines were written.
 fn answer_of(verdict: CheckVerdict) -> Result<(), CheckStop>
     ensures { result ≡ answer_of verdict }
 {
@@ -125,7 +125,8 @@ fn answer_of(verdict: CheckVerdict) -> Result<(), CheckStop>
     }
 }
 
-/// Writes the line of the result, and those of the errors after the first.
+/// Writes the line of the result, and a line for each error after the first. They are built first, so that running out
+/// of memory writes nothing.
 fn put_verdict<O: Outlet>(
     alloc: Global,
     verdict: CheckVerdict,
@@ -141,7 +142,7 @@ fn put_verdict<O: Outlet>(
     }
 }
 
-/// Writes the lines of a check, if it gave a result, and returns what the job answers.
+/// Writes the lines of a check, if it gave a result, and returns the job's result.
 fn put_checked<O: Outlet>(
     alloc: Global,
     checked: Result<CheckVerdict, Unavailable>,
@@ -160,7 +161,8 @@ fn put_checked<O: Outlet>(
     }
 }
 
-/// Checks the file of the path as [`check_path`] does, and writes the result: a line, or a line for each error, at most 100.
+/// Checks the file at the path like [`check_path`], and writes the result: one line, or a line for each error, at most
+/// 100.
 pub fn run_check<T: Start, W: CheckWatch, O: Outlet>(
     rt: &HostRuntime,
     path: &str,

@@ -1,4 +1,4 @@
-//! Comparing the tables of two databases: their columns, keys, checks, references and indexes, and the numbers of their trees.
+//! Comparing the schemas of two databases: columns, keys, checks, references, indexes, and the numbers of their trees.
 
 ghost use Rattle.std.specs.Prelude.{◌≡◌, ◌⊎◌, ◌<◌, ◌↔◌, [], map, IsTrue};
 ghost use Rattle.sqlite_schema.specs.Code.{IsLoanOf, term_to, term_in};
@@ -13,7 +13,7 @@ use sqlite_value::keys::Order;
 use sqlite_value::order;
 use sqlite_value::value::{Bytes, Value, ValueRef};
 
-/// The parts of a schema, which have no `==` of their own.
+/// Equality of a schema's parts, whose types have no `==`.
 trait Same {
     /// Whether the two are equal. This is exact: if the answer is false, they differ.
     fn is_same(&self, other: &Self) -> bool
@@ -66,7 +66,7 @@ impl Same for Value {
     }
 }
 
-/// A node whose literal is borrowed.
+/// The node with its literal borrowed instead of owned, so that two nodes can be compared without a copy.
 fn lend_node(op: &Op) -> Node<'_>
     ensures { IsLoanOf op.now result }
 {
@@ -79,7 +79,7 @@ fn lend_node(op: &Op) -> Node<'_>
     }
 }
 
-/// The node at a place, and the depth to which its operands are read. At depth 0, and at a place without a node, it is NULL.
+/// The node at an index, and the depth to which its operands are read. At depth 0, or without a node there, it is NULL.
 fn node_at(ops: &[Op], depth: usize, at: usize) -> (Node<'_>, usize)
     ensures term { term_to ops.now depth at ≡ node_term (term_to ops.now result.1) result.0 }
     ensures falls { (result.1 < depth) ⊎ (result.0 ≡ Node.Literal ValueRef.Null) }
@@ -90,8 +90,8 @@ fn node_at(ops: &[Op], depth: usize, at: usize) -> (Node<'_>, usize)
     (lend_node(&ops[at]), depth - 1)
 }
 
-/// Compares the expression at the place `x` on the left with the one at `y` on the right. The same expression may be
-/// stored in other nodes, or in another order, so places are never compared.
+/// Compares the expression at the index `x` on the left with the one at `y` on the right. Equal expressions may be
+/// stored in different nodes or in another order, so indices are never compared.
 fn is_same_term(
     left: &[Op],
     left_depth: usize,
@@ -119,7 +119,7 @@ fn is_same_term(
     }
 }
 
-/// Compares lists of expressions, each by the nodes and the places of its roots.
+/// Compares two lists of expressions, each given by its nodes and the indices of its roots.
 fn has_same_terms(left: &[Op], mut roots: &[usize], right: &[Op], mut places: &[usize]) -> bool
     ensures { IsTrue result
         ↔ (map (term_in left.now) roots.entry.now ≡ map (term_in right.now) places.entry.now) }
@@ -190,7 +190,7 @@ fn has_same_columns(left: &Table, right: &Table) -> bool
         && left.is_counted == right.is_counted
 }
 
-/// Compares what the two tables ask of their rows.
+/// Compares the constraints of two tables, and their defaults that are not literals.
 fn has_same_rules(left: &Table, right: &Table) -> bool
     ensures { IsTrue result ↔ HaveSameRules left.now right.now }
 {
@@ -219,8 +219,8 @@ impl Same for Index {
     }
 }
 
-/// Whether the two schemas are equal, and without views. The kit stores triggers, and tables that it does not understand,
-/// among the views. This is exact: if the answer is false, the schemas differ or have views.
+/// Whether the two schemas are equal and have no views. The kit stores triggers, and tables that it does not
+/// understand, among the views. This is exact: if the result is false, the schemas differ or have views.
 pub fn is_same_schema(left: &Schema, right: &Schema) -> bool
     ensures { IsTrue result ↔ ((left.now ≡ right.now) × (left.now.views ≡ [])) }
 {

@@ -1,6 +1,6 @@
-//! A sound archive and, for each table and column, one that is damaged there, by SQL that all constraints of the tables allow.
+//! Checks of a sound archive and of damaged ones. Each table and column is damaged by SQL that all constraints allow.
+use crate::archive_check::{CheckVerdict, Wrong, check_trees};
 use crate::check_watch::Unwatched;
-use crate::judging::{CheckVerdict, Wrong, check_trees};
 use crate::listing::further_errors;
 use sqlite::{Connection, Error, MemStore};
 use std::alloc::Global;
@@ -24,7 +24,7 @@ const SOUND: [&str; 14] = [
     "INSERT INTO census_flags VALUES (2, 0)",
 ];
 
-/// Changes of the tables, and the expected results.
+/// Changes of the tables, and the expected first errors.
 const DAMAGED: [(&str, Wrong); 30] = [
     ("UPDATE layout SET version = 3", Wrong::Layout),
     ("INSERT INTO layout (version) VALUES (2)", Wrong::Layout),
@@ -127,7 +127,7 @@ const DAMAGED: [(&str, Wrong); 30] = [
     ),
 ];
 
-/// Changes that leave the archive sound: who deposited something.
+/// Changes that leave the archive sound: only the member and the token of a row.
 const OTHERS: [&str; 2] = [
     "UPDATE deposits SET member = 'bob', token = 't9' WHERE id = 1",
     "UPDATE censuses SET member = 'eve', token = 't9' WHERE id = 1",
@@ -142,7 +142,7 @@ const UNCOUNTED: [&str; 5] = [
     "UPDATE census_flags SET steady = 0 WHERE census = 1",
 ];
 
-/// Changes that a quick check finds, with the expected results.
+/// Changes that a quick check finds, with the expected first errors.
 const FOUND_QUICKLY: [(&str, Wrong); 10] = [
     ("DELETE FROM layout", Wrong::Layout),
     (
@@ -188,7 +188,7 @@ fn store_with(alloc: Global, changes: &[&str]) -> Result<MemStore, Error> {
     Ok(conn.into_store())
 }
 
-/// The result, or the statement that was refused.
+/// The result of a check after these changes. An error of the check itself is `QueryReturnedNoRows`.
 fn found(alloc: Global, changes: &[&str], quick: bool) -> Result<CheckVerdict, Error> {
     let mut store = store_with(alloc, changes)?;
     match check_trees(&mut store, alloc, quick, &mut Unwatched) {
@@ -272,7 +272,7 @@ const LISTED: [(&[&str], Wrong, &[Wrong]); 9] = [
     (
         &["UPDATE deposits SET population = 6 WHERE id = 1"],
         Wrong::Deposit(1),
-        // Its census can't be counted.
+        // Census 2 is of this deposit, so it can't be counted.
         &[Wrong::Census(2)],
     ),
     (

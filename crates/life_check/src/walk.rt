@@ -1,4 +1,4 @@
-//! Walking over the rows of a table in the store.
+//! Reading the rows of a table from the store, below SQL: in order with a cursor, or one by its rowid.
 
 ghost use Rattle.std.specs.Prelude.{◌≡◌, ℕ, pos, false, IsSome, IfOk, OnOk};
 ghost use Rattle.sqlite_trees.specs.View.{IsClean, StayLive, Advances, Finds as Gets, with_cursor};
@@ -10,17 +10,17 @@ use sqlite_trees::store::{Direction, Shape};
 use sqlite_value::row::Row;
 use std::alloc::Global;
 
-/// The result for the rows of a table.
+/// The result of reading the table of deposits.
 pub(crate) enum Found {
     /// There are this many, each as an archive writes it under its number.
     All(u64),
     /// The row that should have this number is not one that an archive writes.
     Wrong(u64),
-    /// No request can ask for the member and the token of the row with this number.
+    /// The member or the token of the row with this number is not valid in a request.
     Misnamed(u64),
 }
 
-/// The result for the rows of the censuses.
+/// The result of reading the three tables of censuses.
 pub(crate) enum FoundCensuses {
     /// There are this many, each with the rows of its tally and its flag.
     All(u64),

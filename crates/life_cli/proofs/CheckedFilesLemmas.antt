@@ -1,4 +1,4 @@
--- The job that opens files that were checked.
+-- The job that opens files after a check.
 use Rattle.std.proofs.Common.{◌≡◌, ◌∙◌, ◌++◌, ◌∷◌, [], ap, ℕ, List, length, true, false, Option, Some, Result, Ok, Err}
 use Rattle.std.proofs.Common.{refl, sym, subst, subst₂, inl, inr}
 use Rattle.sqlite_disk.specs.declared.Disk as disk
@@ -10,9 +10,9 @@ use Rattle.life_rle.specs.Stream.{Appends}
 use Rattle.life_store.specs.declared.store_fault.Unavailable.{Unavailable as Failed}
 use Rattle.life_desk.specs.Archive.{Archive}
 use Rattle.life_desk.proofs.Representing.{each_of}
-use Rattle.life_check.specs.declared.judging.CheckVerdict.{CheckVerdict}
-use Rattle.life_check.specs.declared.judging.CheckVerdict.TheVariants.{Sound, SoundButForCounts, NotSound}
-use Rattle.life_check.specs.declared.judging.Wrong.{Wrong}
+use Rattle.life_check.specs.declared.archive_check.CheckVerdict.{CheckVerdict}
+use Rattle.life_check.specs.declared.archive_check.CheckVerdict.TheVariants.{Sound, SoundButForCounts, NotSound}
+use Rattle.life_check.specs.declared.archive_check.Wrong.{Wrong}
 use Rattle.life_check.specs.Files.{ChecksPath, IsPathCheck}
 use Rattle.life_check.specs.Listed.{AreFurther}
 use Rattle.life_archive.specs.ArchivePath.{PathJob, BecomesBy, LeavesOne}

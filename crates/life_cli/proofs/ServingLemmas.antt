@@ -1,4 +1,4 @@
--- What a deposit and a check return; and what serving returns if no connection failed before.
+-- The results of a deposit and of a check, and the result of serving if no connection failed before.
 use Rattle.std.proofs.Common.{◌≡◌, ℕ, Bool, List, None, Some, Result, Ok, Err, MatchResult, sym, refl, subst}
 use Rattle.std.proofs.Common.{inl, inr}
 use Rattle.std.specs.Prelude.{OnOk, IfErr}

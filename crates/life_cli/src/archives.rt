@@ -1,4 +1,4 @@
-//! The jobs over an archive in files on this machine.
+//! The jobs of `life_program` over an archive in files on this machine.
 ghost use Rattle.std.specs.Prelude.{◌≡◌, None, Some, MatchResult};
 ghost use Rattle.sqlite_wal.specs.Files.{image_at};
 ghost use Rattle.life_archive.specs.ArchivePath.{AnswersDeposit, AnswersServing, line_after};
@@ -14,10 +14,11 @@ use life_rle::{Inlet, Outlet};
 use sqlite::{FileFrom, Start};
 use sqlite_disk::Disk;
 
-/// How many deposits and how many censuses an archive takes.
+/// The capacity of every archive that `life` opens: deposits and, separately, censuses. The greatest that `life_store`
+/// accepts.
 pub const CAPACITY: u64 = 1_000_000;
 
-/// Turns a stop into its line.
+/// Turns a stop into its line for standard error.
 fn or_line(done: Result<(), ArchiveStop>) -> Result<(), &'static str>
     ensures { MatchResult result (λ _. line_after done ≡ None) (λ line. line_after done ≡ Some line.now) }
 {
@@ -27,7 +28,7 @@ fn or_line(done: Result<(), ArchiveStop>) -> Result<(), &'static str>
     }
 }
 
-/// Turns the stop of a check into its line.
+/// Turns the stop of a check into its line for standard error.
 fn or_line_of_check(done: Result<(), CheckStop>) -> Result<(), &'static str>
     ensures { MatchResult result (λ _. line_after_check done ≡ None) (λ line. line_after_check done ≡ Some line.now) }
 {
@@ -37,7 +38,8 @@ fn or_line_of_check(done: Result<(), CheckStop>) -> Result<(), &'static str>
     }
 }
 
-/// Archives in files on this machine. `start` is their initial content: what a job does is proved for any content.
+/// Archives in files on this machine. `start` states the assumed contents of the files before a job. The clauses hold
+/// for any contents.
 #[derive(Drop)]
 pub struct ArchiveFile<T> {
     pub start: T,
@@ -93,7 +95,7 @@ impl<T: Start> ArchiveJobs for ArchiveFile<T> {
     fn say_why(rt: &HostRuntime, file: &str) {
         if let Some(reason) = reason_of(rt, file) {
             // If standard error fails, the reason can't be reported.
-            let _told = eprintln!(rt; "{file}: {reason}");
+            let _ignored = eprintln!(rt; "{file}: {reason}");
         }
     }
 }

@@ -1,10 +1,10 @@
-//! The progress line of a check.
+//! The progress line of `life check` on standard error.
 
 use life_check::CheckWatch;
 use life_program::ProgressLine;
 use std::alloc::{AllocError, Global};
 
-/// Shows how far a check is.
+/// Shows how many rows a check has read. Deposits are read first, then censuses.
 #[derive(Drop)]
 pub struct CheckProgress<'a> {
     alloc: Global,
@@ -13,7 +13,7 @@ pub struct CheckProgress<'a> {
     deposits: u64,
 }
 
-/// What the line says.
+/// The text of the progress line.
 fn text(alloc: Global, deposits: u64, censuses: u64, seconds: u64) -> Result<String, AllocError> {
     format!(in alloc; "{deposits} deposits and {censuses} censuses read, {seconds} s")
 }
@@ -28,7 +28,7 @@ impl<'a> CheckProgress<'a> {
         }
     }
 
-    /// Shows how many are read, if it is time.
+    /// Updates the line, if an update is due.
     fn show(&mut self, censuses: u64) {
         let Some(seconds) = self.line.due() else {
             return;

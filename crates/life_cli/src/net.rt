@@ -23,7 +23,7 @@ fn address_of(alloc: Global, port: u64) -> Result<String, AllocError>
     format!(in alloc; "127.0.0.1:{port}")
 }
 
-/// Listens at a port of this machine.
+/// Listens at a port of this machine. `NoPort` if the system refuses it.
 fn listen(rt: &HostRuntime, port: u64) -> Result<TcpListener, ArchiveStop>
     ensures { IfErr result CannotListen }
 {
@@ -36,7 +36,7 @@ fn listen(rt: &HostRuntime, port: u64) -> Result<TcpListener, ArchiveStop>
     }
 }
 
-/// Prints where the program listens.
+/// Prints the address on standard output, once the port accepts connections.
 fn say_port(rt: &HostRuntime, port: u64) -> io::Result<()> {
     println!(rt; "listening on 127.0.0.1:{port}")
 }
@@ -68,13 +68,13 @@ fn serve_next<S: Alter>(
     served
 }
 
-/// The connections to a port. The program listens there once the archive is open.
+/// The connections to a port. The program listens there only after it has opened the archive.
 #[derive(Drop)]
 pub struct PortConnections<'a> {
     rt: &'a HostRuntime,
     port: u64,
     listener: Option<TcpListener>,
-    /// How many connections failed.
+    /// How many connections ended with a fault. It only grows, up to the greatest `u64`.
     failures: u64,
 }
 
@@ -105,14 +105,14 @@ impl Connections for PortConnections<'_> {
         }
     }
 
-    /// A connection that fails prints a line.
+    /// Serves one connection. If it fails, prints a line on standard error.
     fn serve_next<S: Alter>(&mut self, alloc: Global, archive: &mut Archive<S>) {
         match serve_next(self.rt, alloc, archive, &self.listener) {
             Ok(()) => {}
             Err(fault) => {
                 self.failures = self.failures.saturating_add(1);
                 // If standard error fails, the error can't be reported.
-                let _told = self.rt.eprintln(connection_line(fault));
+                let _ignored = self.rt.eprintln(connection_line(fault));
             }
         }
     }

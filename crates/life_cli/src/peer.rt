@@ -15,26 +15,26 @@ const MESSAGE: u64 = 10;
 /// How many seconds the peer may take to read a reply.
 const REPLY: u64 = 10;
 
-/// For at most how many seconds the rest that a peer sends after the last reply is read and dropped.
+/// How many seconds, at most, bytes that a peer sends after the last reply are read and dropped.
 const REST: u64 = 2;
 
-/// The most pieces of it that are dropped.
+/// The most reads of such bytes, of up to 4 KiB each.
 const PIECES: u64 = 256;
 
 /// A connection with a peer, which ends if the peer takes too long.
 ///
-/// If no byte of a message has come for a second, since the connection began or since the last reply, it counts as ended. A
-/// message that has begun, and a reply, have ten seconds; then the read or the write fails. Only the time of waiting for the
-/// peer counts, not the time that it takes to make a reply.
+/// The connection counts as ended if no message begins within a second after it opened or after the last reply. A
+/// message that has begun, and a reply, have ten seconds; then the read or the write fails. Only waiting for the peer
+/// counts, not computing a reply.
 #[derive(Drop)]
 pub struct Peer<'a> {
     rt: &'a HostRuntime,
     stream: &'a TcpStream,
-    /// How much longer the current message may take; `None` between messages.
+    /// The time left for the current message to arrive; `None` between messages.
     message: Cell<Option<Duration>>,
-    /// How much longer the current reply may take.
+    /// The time left for the peer to read the current reply.
     reply: Cell<Duration>,
-    /// Whether the last read found the end: the peer ended the connection, or was silent.
+    /// Whether the last read found the end, because the peer closed the connection or was silent.
     is_drained: Cell<bool>,
 }
 
@@ -50,8 +50,9 @@ impl<'a> Peer<'a> {
         }
     }
 
-    /// Tells the client that the reply has ended. If unread bytes may be left, some of them are read and dropped: closing a socket with unread
-    /// bytes resets the connection, and the last reply may be lost. It does not wait again for a peer that was silent or has ended.
+    /// Shuts down writing, which shows the client that the last reply has ended. Then reads and drops some unread
+    /// bytes, since closing a socket with unread bytes resets the connection and may lose the last reply. It doesn't
+    /// wait again for a peer that was silent or has closed the connection.
     pub fn end(&self) -> io::Result<()> {
         self.stream.shutdown(Shutdown::Write)?;
         if self.is_drained.get() {

@@ -1,4 +1,5 @@
-//! Why the file of an archive could not be used. A refused opening has no reason, so the file is opened once more. This is tested, not proved.
+//! Finding a reason why the file of an archive could not be used. A refused opening doesn't give one, so the file is
+//! opened once more. This is tested, not proved.
 
 use crate::archives::CAPACITY;
 use life_store::Archive;
@@ -6,7 +7,7 @@ use sqlite::{Connection, Error, ErrorCode, Unknown};
 use std::fs;
 use std::io::{self, ErrorKind, Read};
 
-/// How an SQLite database begins.
+/// The first 16 bytes of every SQLite database that is not empty.
 const MAGIC: &[u8; 16] = b"SQLite format 3\0";
 
 /// Why the system refused to read the file.
@@ -29,7 +30,7 @@ fn is_database(rt: &HostRuntime, path: &str) -> io::Result<bool> {
     }
 }
 
-/// The reason that an error of the opening stands for.
+/// The text for an error of the opening, if it has one.
 fn opening_reason(error: Error) -> Option<&'static str> {
     match error {
         Error::SqliteFailure(ErrorCode::DatabaseBusy) => Some("another program has it open"),
@@ -47,7 +48,8 @@ fn opening_reason(error: Error) -> Option<&'static str> {
     }
 }
 
-/// Why the file is not opened, if it is not. A log that an opening makes is removed again, while the lock of the file is still held.
+/// Why opening the file fails, if it does. A log that this opening makes is removed again while the file is still
+/// locked.
 fn refused_opening(rt: &HostRuntime, path: &str) -> Option<&'static str> {
     if let Ok((_archive, made)) = Archive::open_unprepared(rt, path, CAPACITY, Unknown) {
         made.remove(rt);
@@ -58,7 +60,7 @@ fn refused_opening(rt: &HostRuntime, path: &str) -> Option<&'static str> {
     let opened = Connection::open_from(rt, path, true, Unknown);
     let holds_lock = !matches!(opened, Err((_, None)));
     if holds_lock && !had_log && fs::metadata(rt, log.as_str()).is_ok_and(|made| made.len() == 0) {
-        // If it stays, it is empty, and the next opening takes it.
+        // If removing fails, the log stays empty, and the next opening uses it.
         let _removed = fs::remove_file(rt, log.as_str());
     }
     match opened {
@@ -67,7 +69,8 @@ fn refused_opening(rt: &HostRuntime, path: &str) -> Option<&'static str> {
     }
 }
 
-/// Why the file could not be used, in a few words, if a second look shows it.
+/// Why the file could not be used, in a few words, if opening it again shows a reason. It is printed after an
+/// unavailable job.
 pub fn reason_of(rt: &HostRuntime, path: &str) -> Option<&'static str> {
     let found = match fs::metadata(rt, path) {
         Ok(found) => found,

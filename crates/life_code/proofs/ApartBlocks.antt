@@ -1,4 +1,4 @@
--- What the block of a cell decides, and the next set of a union of sets that are apart.
+-- A cell's next state depends only on its block of 3 by 3; so the next set of a union of sets that are apart.
 use Rattle.std.specs.Prelude.{◌≡◌, ◌+◌, ℤ, pos, negsuc, ◌≤ℤ◌, Bool, true, false, cond, ◌||◌, List, [], ◌∷◌, count_by}
 use Rattle.std.specs.Prelude.{◌⊎◌, refl}
 use Rattle.std.proofs.Common.{sym, ap, ◌∙◌, inl, inr, arith}

@@ -1,5 +1,5 @@
--- If two parts of a set evolve independently and move differently, the set never returns: it grows wider or higher than
--- it was.
+-- If two parts of a set evolve independently and move differently, the set never returns, because it grows wider or
+-- higher.
 use Rattle.std.specs.Prelude.{◌≡◌, ℕ, zero, suc, ◌+◌, ◌*◌, ◌≤◌, ℤ, pos, negsuc, neg_ℤ, ◌+ℤ◌, ◌*ℤ◌, ◌≤ℤ◌, true, List, []}
 use Rattle.std.specs.Prelude.{◌∷◌, refl}
 use Rattle.std.proofs.Common.{sym, ap, subst, ◌∙◌, inl, inr, arith}

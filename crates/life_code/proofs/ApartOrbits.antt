@@ -1,4 +1,4 @@
--- Orbits: what their search keeps, and when two of them are never near.
+-- Orbits: the invariant of their search, and when two parts are never near each other.
 use Rattle.std.specs.Prelude.{◌≡◌, ◌≢◌, ℕ, zero, suc, ◌+◌, ◌/◌, ◌%◌, ◌<◌, ◌≤◌, ℤ, pos, ◌+ℤ◌, ◌-ℤ◌, ◌*ℤ◌, ◌≤ℤ◌, List}
 use Rattle.std.specs.Prelude.{refl}
 use Rattle.std.specs.List.{All}

@@ -1,4 +1,4 @@
--- Sets that are apart evolve each as if it were alone.
+-- Sets that are apart evolve independently.
 use Rattle.std.specs.Prelude.{◌≡◌, ℕ, zero, suc, ◌<◌, true, false, ◌||◌, List, [], ◌∷◌, map, ◌⊎◌}
 use Rattle.std.proofs.Common.{sym, ap, ◌∙◌, inl, inr, refl, arith}
 use Rattle.std.proofs.lemmas.Bool.{false≢true, cases_Bool, or_left, or_right}
@@ -12,7 +12,7 @@ use Rattle.life_core.specs.Rule.{RuleSets}
 use Rattle.life_core.specs.Generations.{next, generation_of}
 use Rattle.life_core.proofs.PatternMembers.{cell_cmp_total}
 use Rattle.life_code.specs.Apart.{AreApart, AreAllApart, union_of}
-use Rattle.life_code.specs.CodeLaws.{ApartGoOnAlone}
+use Rattle.life_code.specs.CodeLaws.{ApartEvolveIndependently}
 use Rattle.life_code.proofs.ApartBlocks.{next-union, next-empty}
 
 apart_from_union : (P : Cells) (Ps : List Cells) → AllByRecursion (AreApart P) Ps → AreApart P (union_of Ps)
@@ -74,5 +74,5 @@ in_union_of f (Q ∷ Qs) P c h live = set.contains-union cell_cmp_total (f Q) (u
   | inr rest ↦ or_right _ _ (in_union_of f Qs P c rest live)
 ]
 
-pub apart_go_on_alone : ApartGoOnAlone
-apart_go_on_alone r Ps none apart k = generation-union_of r Ps none apart k
+pub apart_evolve_independently : ApartEvolveIndependently
+apart_evolve_independently r Ps none apart k = generation-union_of r Ps none apart k

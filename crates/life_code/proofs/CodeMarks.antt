@@ -1,4 +1,5 @@
--- Fronts of codes: no byte of a prefix or a number is the mark `_`, and what a number is in decimal digits.
+-- The part of a code before the `_`: neither a prefix nor a number contains `_`, and how a number is written in
+-- decimal digits.
 use Rattle.std.proofs.Common.{◌≡◌, ℕ, zero, suc, ◌+◌, ◌-◌, ◌*◌, ◌/◌, ◌%◌, ◌<◌, ◌≤◌, true, false, cond, not, Some, None}
 use Rattle.std.proofs.Common.{List, [], ◌∷◌, ◌++◌, length, take, drop, get_or, refl, sym, ap, ◌∙◌, subst, arith, ⊎_elim}
 use Rattle.std.specs.Prelude.{nat_eq, nat_lt, nat_le, codes, ◌==◌}

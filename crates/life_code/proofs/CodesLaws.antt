@@ -1,4 +1,4 @@
--- The code is a complete invariant: sets that are one object have one code, and a code is of one object alone.
+-- The code is a complete invariant: sets have the same code if and only if they are one object.
 use Rattle.std.proofs.Common.{◌≡◌, ◌≢◌, ℕ, ◌+◌, ◌<◌, ◌≤◌, Bool, true, false, cond, ◌&&◌, Option, Some, None, List, []}
 use Rattle.std.proofs.Common.{◌∷◌, ◌++◌, ℤ, pos, neg_ℤ, refl, sym, ap, ◌∙◌, subst, arith, true≢false, ⊎_elim}
 use Rattle.std.specs.Prelude.{nat_eq, MatchOption, codes}

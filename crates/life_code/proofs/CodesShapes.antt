@@ -1,4 +1,4 @@
--- Sets that are taken to one another have the same shapes, and so the same least candidate.
+-- Sets that differ only by moves and orientations have the same shapes, and so the same least candidate.
 use Rattle.std.proofs.Common.{◌≡◌, ℕ, ◌+◌, ◌/◌, ◌%◌, ◌<◌, ◌≤◌, List, sym, ap, ◌∙◌, arith}
 use Rattle.life_core.specs.declared.cell.Cell.{Cell}
 use Rattle.life_core.specs.declared.orientation.Orientation.{Orientation}

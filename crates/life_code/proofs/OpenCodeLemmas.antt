@@ -1,4 +1,4 @@
--- Which texts spell a set, and what the refusals of a code are worth.
+-- The texts that spell a set, and what each refusal of a code proves.
 use Rattle.std.proofs.Common.{◌≡◌, ◌≢◌, ℕ, ◌≤◌, Bool, true, false, cond, Option, Some, None, List, [], ◌∷◌, ◌++◌}
 use Rattle.std.proofs.Common.{Result, Ok, Err, refl, sym, ap, ◌∙◌, subst, true≢false}
 use Rattle.std.specs.Prelude.{IfOk, IsTrue, MatchOption, ◌↔◌}

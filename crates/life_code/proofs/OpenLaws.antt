@@ -1,4 +1,4 @@
--- What a code spells: a set that has it; and so a text that is refused is no set's code.
+-- A code spells a set that has it, so a refused text is the code of no set.
 use Rattle.std.proofs.Common.{◌≡◌, ◌≢◌, ℕ, zero, suc, ◌≤◌, Bool, true, false, cond, Option, Some, None, List, [], ◌∷◌}
 use Rattle.std.proofs.Common.{◌++◌, refl, sym, ap, ◌∙◌, arith, true≢false, ◌⊎◌, inl, inr, ⊎_elim}
 use Rattle.std.specs.Prelude.{nat_eq, MatchOption, codes}

@@ -1,6 +1,6 @@
--- Under a rule with a birth at one neighbour no set with a cell comes back. Of the cells that lie the furthest along a
--- diagonal, the one diagonally beyond has one live neighbour and is born, so each generation reaches further on both
--- ends of the diagonal.
+-- Under a rule with a birth at one neighbour no set with a cell returns. Take the cells furthest along a diagonal. The
+-- cell diagonally beyond has one live neighbour and is born, so each generation is longer at both ends of the
+-- diagonal.
 use Rattle.std.specs.Prelude.{◌≡◌, ◌≢◌, ℕ, zero, suc, ◌+◌, ◌≤◌, ℤ, pos, negsuc, ◌+ℤ◌, ◌-ℤ◌, ◌≤ℤ◌, Bool, true, false}
 use Rattle.std.specs.Prelude.{cond, ◌||◌, List, [], ◌∷◌, ◌++◌, count_by, refl}
 use Rattle.std.specs.List.{list_any}

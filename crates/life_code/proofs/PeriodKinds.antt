@@ -1,4 +1,4 @@
--- A kind says what it means, and no other kind does.
+-- `kind_of` gives the one kind whose meaning holds.
 use Rattle.std.specs.Prelude.{◌≡◌, ◌≢◌, ℕ, zero, suc, ◌+◌, ◌<◌, ◌≤◌, Bool, true, false, cond, ◌&&◌, nat_eq, Option}
 use Rattle.std.specs.Prelude.{Some, None, MatchOption, Ok, ℤ, pos, ◌+ℤ◌, ◌-ℤ◌, neg_ℤ, refl}
 use Rattle.std.specs.List.{range_with_len, find}

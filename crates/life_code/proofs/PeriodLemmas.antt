@@ -18,7 +18,7 @@ use Rattle.life_core.proofs.PatternCorners.{normal-moved, same_normal}
 use Rattle.life_core.proofs.PatternMembers.{cell_cmp_total, cells_by_members, same_answer}
 use Rattle.life_core.proofs.Placements.{origin, minus, plus, after, moved, placed, placed_origin, placed-placed}
 use Rattle.life_core.proofs.Placements.{placed_back, moved-placed, moved-moved, generation-placed}
-use Rattle.life_code.specs.CodeLaws.{PhasesComeAgain, PhasesDiffer}
+use Rattle.life_code.specs.CodeLaws.{PhasesRepeat, PhasesDiffer}
 use Rattle.life_code.specs.Period.{Returns, HasPeriod, same_cells, returns}
 
 -- ---- whether two sets are one
@@ -244,8 +244,8 @@ module _ (r : RuleSets) where
 
 -- ---- the cycle of the phases
 
-pub phases_come_again : PhasesComeAgain
-phases_come_again r X p dx dy (h, e, first) i =
+pub phases_repeat : PhasesRepeat
+phases_repeat r X p dx dy (h, e, first) i =
     let there = many (i / p) (cell_at (dx, dy)) in
     (there.column, there.row, phase_mod r X p (cell_at (dx, dy)) h e i)
 

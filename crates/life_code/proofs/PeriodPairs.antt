@@ -1,6 +1,5 @@
--- Under a rule with a birth at two neighbours, and none at fewer, a pair in the first row of a set has a pair above it
--- one generation later. So a set with such pairs in its first and its last row reaches further up and down in each
--- generation, and never comes back.
+-- Take a rule with a birth at two neighbours and none at fewer. A pair in the first row gives a pair above it in the
+-- next generation. A set with such pairs in its first and last row grows in both directions, and never returns.
 use Rattle.std.specs.Prelude.{◌≡◌, ℕ, zero, suc, ◌+◌, ◌≤◌, ℤ, pos, negsuc, ◌+ℤ◌, ◌-ℤ◌, neg_ℤ, ◌≤ℤ◌, ◌<ℤ◌, Bool, true}
 use Rattle.std.specs.Prelude.{false, cond, ◌||◌, List, [], ◌∷◌, ◌++◌, count_by, refl}
 use Rattle.std.specs.List.{list_any}

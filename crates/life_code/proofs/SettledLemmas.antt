@@ -1,4 +1,4 @@
--- Later generations of parts that go their orbits.
+-- Later generations of parts, computed from their orbits.
 use Rattle.std.specs.Prelude.{◌≡◌, ℕ, ◌+◌, ◌-◌, ◌/◌, ◌%◌, ◌<◌, ◌≤◌, Bool, true, false, ◌||◌, Option, Some, None, Result}
 use Rattle.std.specs.Prelude.{Ok, Err, IfOk, IfSome, pos, ◌*ℤ◌, List, [], ◌∷◌, ◌++◌, length, map, take, get_or, refl}
 use Rattle.std.specs.List.{All}

@@ -1,4 +1,4 @@
--- What is decoded from the text of a normal set of at most 40 by 40 is the set, which has at most 1600 cells.
+-- Decoding the text of a normal set of at most 40 by 40 gives the set, which has at most 1600 cells.
 use Rattle.std.proofs.Common.{◌≡◌, ℕ, zero, suc, ◌+◌, ◌*◌, ◌/◌, ◌%◌, ◌<◌, ◌≤◌, Bool, true, false, cond, List, [], ◌∷◌}
 use Rattle.std.proofs.Common.{map, length, ℤ, pos, negsuc, refl, sym, ap, ◌∙◌, subst, arith, inl, inr, ⊎_elim}
 use Rattle.std.specs.List.{range_with_len, filter}

@@ -1,4 +1,4 @@
--- How long the text of a set is.
+-- A bound on the length of a set's text.
 use Rattle.std.proofs.Common.{◌≡◌, ℕ, zero, suc, ◌+◌, ◌*◌, ◌/◌, ◌<◌, ◌≤◌, true, false, cond, List, [], ◌∷◌, ◌++◌}
 use Rattle.std.proofs.Common.{length, length-append, map, ap, arith}
 use Rattle.std.specs.Prelude.{nat_eq}

@@ -1,4 +1,4 @@
--- The text of a set spells its cells, so two normal sets have two texts.
+-- The text of a set spells its cells, so different normal sets have different texts.
 use Rattle.std.proofs.Common.{◌≡◌, ℕ, zero, suc, ◌+◌, ◌-◌, ◌*◌, ◌/◌, ◌%◌, ◌^◌, ◌<◌, ◌≤◌, Bool, true, false, cond, List}
 use Rattle.std.proofs.Common.{[], ◌∷◌, ◌++◌, map, get_or, ℤ, pos, negsuc, nat_abs, ◌≤ℤ◌, refl, sym, ap, ◌∙◌, arith}
 use Rattle.std.proofs.Common.{⊎_elim, append-nil, add-zero}

@@ -10,7 +10,7 @@ use Rattle.life_core.specs.Pattern.{Cells}
 abbrev pub within_two : ℤ → ℤ → Bool
 within_two a b = int_le a (b +ℤ pos 2) && int_le b (a +ℤ pos 2)
 
--- the rows and the columns differ by at most 2
+-- the rows and the columns differ by at most 2: (0, 0) is near (2, 2), but not near (3, 0)
 unfoldable pub near : Cell → Cell → Bool
 near c d = within_two c.row d.row && within_two c.column d.column
 
@@ -18,7 +18,7 @@ near c d = within_two c.row d.row && within_two c.column d.column
 abbrev pub AreApart : Cells → Cells → Type 0
 AreApart Y Z = (c d : Cell) → set.contains Y c ≡ true → set.contains Z d ≡ true → near c d ≡ false
 
--- no set is near a later one
+-- the sets are pairwise apart
 abbrev pub AreAllApart : List Cells → Type 0
 AreAllApart [] = Unit {0}
 AreAllApart (P ∷ Ps) = AllByRecursion (AreApart P) Ps × AreAllApart Ps

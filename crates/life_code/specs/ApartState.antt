@@ -1,4 +1,4 @@
--- What the search for parts that move apart says of them.
+-- Facts that the search for parts moving apart finds out.
 use Rattle.std.specs.Prelude.{◌≡◌, ◌≢◌, ◌⊎◌, ℕ, ◌<◌, ◌≤◌, ℤ, pos, ◌+ℤ◌, ◌-ℤ◌, ◌*ℤ◌, ◌<ℤ◌, ◌≤ℤ◌, true, List, map}
 use Rattle.std.specs.List.{All, Contains}
 use Rattle.std.specs.FinSet as set
@@ -13,14 +13,14 @@ use Rattle.life_code.specs.Apart.{AreAllApart}
 use Rattle.life_code.specs.PartFramesState.{IsInFrame}
 use Rattle.life_code.specs.Period.{Returns}
 
--- X comes back as the orbit says, and until then all its cells lie in the box
+-- X returns after a period as the orbit says, and until then all its cells lie in the box
 pub record IsOrbit (r : RuleSets) (X : Cells) (o : Orbit) : Type 0 where
   pub some : X ≢ set.empty
   pub from : 1 ≤ o.period
   pub back : Returns r X o.period o.dx o.dy
   pub inside : (i : ℕ) (c : Cell) → i < o.period → set.contains (generation_of r X i) c ≡ true → IsInFrame o.frame c
 
--- what moves by dx in p generations comes no nearer to what moves by ex in q generations, and lies beyond it
+-- a part moving by dx in p generations never gets closer to a part after it, which moves by ex in q generations
 abbrev pub ComesNoNearer : ℕ → ℤ → ℕ → ℤ → Type 0
 ComesNoNearer p dx q ex = ((dx ≤ℤ pos 0) × (pos 0 ≤ℤ ex)) ⊎ ((p ≡ q) × (dx ≤ℤ ex))
 
@@ -53,12 +53,12 @@ KeepsAside o p = (KeepsLeft o p ⊎ KeepsAbove o p) ⊎ (KeepsUpperLeft o p ⊎ 
 abbrev pub KeepApart : Orbit → Orbit → Type 0
 KeepApart o p = KeepsAside o p ⊎ KeepsAside p o
 
--- in as many generations they don't move by as much
+-- over p * q generations, where p and q are their periods, the two move by different amounts
 abbrev pub MoveDifferently : Orbit → Orbit → Type 0
 MoveDifferently o p =
     ¬ (((pos p.period *ℤ o.dx) ≡ (pos o.period *ℤ p.dx)) × ((pos p.period *ℤ o.dy) ≡ (pos o.period *ℤ p.dy)))
 
--- the part goes its orbit
+-- the orbit belongs to the part
 abbrev pub IsMoving : {A : Type 0} → RuleSets → Moving A → Type 0
 IsMoving {A} r m = IsOrbit r m.part m.orbit
 
@@ -66,16 +66,16 @@ IsMoving {A} r m = IsOrbit r m.part m.orbit
 abbrev pub parts_of : {A : Type 0} → List (Moving A) → List Cells
 parts_of {A} parts = map (λ (m : Moving A). m.part) parts
 
--- each part goes its orbit, and no two are ever near at one time
+-- each part has its orbit, and no two are ever near each other at the same time
 pub record AreMoving {A : Type 0} (r : RuleSets) (parts : List (Moving A)) : Type 0 where
   pub each : All (IsMoving r) parts
   pub apart : (k : ℕ) → AreAllApart (map (λ P. generation_of r P k) (parts_of parts))
 
--- the orbit keeps apart from those of all the parts
+-- the orbit keeps apart from every part's orbit
 abbrev pub KeepsApartFrom : {A : Type 0} → List (Moving A) → Orbit → Type 0
 KeepsApartFrom {A} parts o = All (λ (m : Moving A). KeepApart m.orbit o) parts
 
--- two of the parts don't move by as much
+-- m and n are parts that move differently
 pub record SomeMoveDifferently {A : Type 0} (parts : List (Moving A)) : Type 0 where
   pub m : Moving A
   pub n : Moving A
@@ -83,7 +83,7 @@ pub record SomeMoveDifferently {A : Type 0} (parts : List (Moving A)) : Type 0 w
   pub has_n : Contains parts n
   pub differ : MoveDifferently m.orbit n.orbit
 
--- the cells are those of the two lists
+-- the two lists together have the same cells
 abbrev pub AreParted : List Cell → List Cell → List Cell → Type 0
 AreParted cells inside outside =
     set.from_list {R = cell_cmp} cells ≡ set.union (set.from_list inside) (set.from_list outside)

@@ -19,7 +19,7 @@ Shows flags X = (x y : ℕ) → x < 40 → y < 40 → get_or flags (40 * y + x) 
 abbrev pub bit_of : List Bool → ℕ → ℕ
 bit_of flags i = if get_or flags i false then 1 else 0
 
--- the value of column x of strip s, by the flags
+-- the five flags of column x in strip s as a number; a strip has 5 * 40 = 200 flags
 abbrev pub shown_value : List Bool → ℕ → ℕ → ℕ
 shown_value flags s x =
     bit_of flags (200 * s + x) + 2 * bit_of flags (200 * s + 40 + x) + 4 * bit_of flags (200 * s + 80 + x)

@@ -4,7 +4,7 @@ use Rattle.life_core.specs.CoreFault.{Label, label}
 use Rattle.life_code.specs.declared.code_fault.CodeFault.{CodeFault}
 use Rattle.life_code.specs.declared.code_fault.CodeFault.TheVariants.{BadText, NotCanonical, NotWithinLimit, Memory}
 
--- NotWithinLimit is judged before NotCanonical
+-- NotWithinLimit is checked before NotCanonical
 abbrev pub label_of : CodeFault → Label
 label_of BadText = label 1 (codes "bad-text")
 label_of NotCanonical = label 2 (codes "not-canonical")

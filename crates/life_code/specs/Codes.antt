@@ -1,5 +1,5 @@
--- Codes of periodic patterns (LifeWiki, "Apgcode"). The choice among phases, orientations and texts is this project's:
--- the shortest text, and of texts as long the least by bytes.
+-- Codes of periodic patterns (LifeWiki, "Apgcode"). This project chooses the code's text among all phases and
+-- orientations: the shortest and, among texts of this length, the least by bytes.
 use Rattle.std.specs.Prelude.{◌≡◌, ◌≢◌, ℕ, ◌<◌, Bool, ◌&&◌, nat_le, if◌then◌else◌, Option, Some, None, ℤ, List, [], ◌∷◌}
 use Rattle.std.specs.Prelude.{◌++◌, length, codes}
 use Rattle.std.specs.List.{range_with_len, flat_map}
@@ -24,7 +24,7 @@ use Rattle.life_code.specs.Wechsler.{width, height, wechsler}
 
 -- ---- candidates
 
--- the eight orientations
+-- the eight rotations and reflections
 abbrev pub orientations : List Orientation
 orientations = O0 ∷ O1 ∷ O2 ∷ O3 ∷ O4 ∷ O5 ∷ O6 ∷ O7 ∷ []
 
@@ -50,27 +50,27 @@ candidates r X p = flat_map (λ i. texts_of (generation_of r X i)) (range_with_l
 
 -- ---- the least candidate
 
--- texts are compared by length, and then by bytes
+-- the order of texts, by length and then by bytes: `7` comes before `33`, which comes before `66`
 abbrev pub text_cmp : List ℕ → List ℕ → Ordering
 text_cmp a b = ordering_then (nat_cmp (length a) (length b)) (slice_cmp nat_cmp a b)
 
--- the lesser of a text and one that may be missing
+-- the lesser of two texts, the second of which may be missing
 abbrev pub lesser : List ℕ → Option (List ℕ) → List ℕ
 lesser a None = a
 lesser a (Some b) = if is_gt (text_cmp a b) then b else a
 
--- the least of some texts
+-- the least text of a list, if it is not empty
 unfoldable pub least_text : List (List ℕ) → Option (List ℕ)
 least_text [] = None
 least_text (text ∷ texts) = Some (lesser text (least_text texts))
 
 -- ---- the code
 
--- prefix, number, `_` and text, if there is a text
+-- writes a code, if there is a text: `xs`, 4 and `33` give `xs4_33`
 abbrev pub with_prefix : List ℕ → ℕ → Option (List ℕ) → Option (List ℕ)
 with_prefix prefix n text = option_map (λ t. prefix ++ decimal n ++ underscore ∷ t) text
 
--- the code by the kind: `xs` and the population, `xp` or `xq` and the period, and the least candidate
+-- the code for a kind: `xs` and the population, or `xp` or `xq` and the period, with the least candidate
 abbrev pub code_by_kind : RuleSets → Cells → Kind → Option (List ℕ)
 code_by_kind r X Empty = None
 code_by_kind r X Still = with_prefix (codes "xs") (set.len X) (least_text (candidates r X 1))
@@ -78,7 +78,7 @@ code_by_kind r X (Oscillator p) = with_prefix (codes "xp") p (least_text (candid
 code_by_kind r X (Ship p dx dy) = with_prefix (codes "xq") p (least_text (candidates r X p))
 code_by_kind r X Unresolved = None
 
--- the code of X under a limit of the period, if it has one
+-- the code of X under a limit on the period, if it has one
 unfoldable pub code_of : RuleSets → Cells → ℕ → Option (List ℕ)
 code_of r X limit = code_by_kind r X (kind_of r X limit)
 

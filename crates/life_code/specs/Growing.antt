@@ -6,15 +6,15 @@ use Rattle.life_core.specs.Cell.{cell_at}
 use Rattle.life_core.specs.Pattern.{Cells}
 use Rattle.life_core.specs.Rule.{RuleSets}
 
--- on either side of columns x and x + 1 the two nearest cells of row y are dead
+-- the two cells before column x and the two after column x + 1 are dead in row y
 pub record IsAlone (X : Cells) (x y : ℤ) : Type 0 where
   pub second_left : set.contains X (cell_at (x -ℤ pos 2, y)) ≡ false
   pub left : set.contains X (cell_at (x -ℤ pos 1, y)) ≡ false
   pub right : set.contains X (cell_at (x +ℤ pos 2, y)) ≡ false
   pub second_right : set.contains X (cell_at (x +ℤ pos 3, y)) ≡ false
 
--- The cells at columns x and x + 1 of row y are live, and they stand alone there if three live neighbours give no
--- birth: `2o` has such a pair under B2/S and under B23/S, `3o` only under B23/S.
+-- The cells in columns x and x + 1 of row y are live. Unless three live neighbours give a birth, the two nearest cells
+-- on either side must be dead: `2o` has such a pair under B2/S and under B23/S, `3o` only under B23/S.
 pub record HasPair (r : RuleSets) (X : Cells) (x y : ℤ) : Type 0 where
   pub left : set.contains X (cell_at (x, y)) ≡ true
   pub right : set.contains X (cell_at (x +ℤ pos 1, y)) ≡ true

@@ -5,14 +5,14 @@ use Rattle.life_core.specs.Rule.{RuleSets, coded_rule}
 use Rattle.life_core.specs.Pattern.{Cells, coded_cells}
 use Rattle.life_code.specs.Codes.{code_of}
 
--- a rule, a set of cells, a limit of the period and a text
+-- a rule, a set of cells, a limit on the period and a text
 pub record CodedCells : Type 0 where
   pub rule : RuleSets
   pub cells : Cells
   pub limit : ℕ
   pub text : List ℕ
 
--- they are stored as the pairs of their parts
+-- encodes the record as nested pairs
 abbrev pub coded_object : Coded CodedCells
 coded_object =
     code_by (RuleSets × (Cells × (ℕ × List ℕ)))
@@ -25,7 +25,7 @@ coded_object =
 abbrev pub IsCoded : CodedCells → Type 0
 IsCoded o = code_of o.rule o.cells o.limit ≡ Some o.text
 
--- the code of X under a rule and a limit, with what it was made of; or nothing if X has none
+-- the code of X together with the rule, cells and limit that it was computed from; `None` if X has no code
 abbrev pub IsCodeOf : RuleSets → Cells → ℕ → Option CodedCells → Type 0
 IsCodeOf r X limit None = code_of r X limit ≡ None
 IsCodeOf r X limit (Some o) = (code_of r X limit ≡ Some o.text) × (o.rule ≡ r) × (o.cells ≡ X) × (o.limit ≡ limit)

@@ -1,4 +1,4 @@
--- Which set of cells a code spells, and what a refusal of a code says.
+-- The set of cells that a code spells, and the meaning of each refusal.
 use Rattle.std.specs.Prelude.{◌≡◌, ◌≢◌, ◌⊎◌, ℕ, Bool, true, false, not, ◌&&◌, ◌==◌, nat_le, Some, List, [], ◌∷◌, ◌++◌}
 use Rattle.std.specs.Prelude.{length, codes}
 use Rattle.std.specs.Char.{is_ascii_digit}
@@ -14,7 +14,7 @@ use Rattle.life_code.specs.Period.{kind_of}
 use Rattle.life_code.specs.Wechsler.{wechsler}
 use Rattle.life_code.specs.Codes.{fits, code_of}
 
--- a prefix of a code
+-- a code begins with `xs` for a still life, `xp` for an oscillator or `xq` for a spaceship
 abbrev pub IsPrefix : List ℕ → Type 0
 IsPrefix prefix = (prefix ≡ codes "xs") ⊎ ((prefix ≡ codes "xp") ⊎ (prefix ≡ codes "xq"))
 
@@ -24,7 +24,7 @@ is_number [] = false
 is_number (digit ∷ digits) =
     not (digit == digit_0) && nat_le (length digits) 5 && list_all is_ascii_digit (digit ∷ digits)
 
--- a prefix and a number
+-- the part of a code before the `_`, such as `xq4`
 pub record IsFront (front : List ℕ) : Type 0 where
   pub prefix : List ℕ
   pub is_prefix : IsPrefix prefix
@@ -47,8 +47,8 @@ pub record Spells (text : List ℕ) (X : Cells) : Type 0 where
   pub is_wechsler : IsWechsler back X
   pub parts : text ≡ front ++ underscore ∷ back
 
--- what a refusal of a code says: it spells no set; the set that it spells has no period within the limit; or that set
--- has another code, or none
+-- The meaning of each refusal: the text spells no set; its set has no period within the limit; or its set has another
+-- code, or none. Out of memory allows no conclusion.
 abbrev pub Refuses : RuleSets → List ℕ → ℕ → CodeFault → Type 0
 Refuses r text limit BadText = (X : Cells) → ¬ Spells text X
 Refuses r text limit NotWithinLimit = (X : Cells) × Spells text X × (kind_of r X limit ≡ Unresolved)

@@ -1,4 +1,4 @@
--- What boxes round cells say of them.
+-- Eight-sided boxes around cells.
 use Rattle.std.specs.Prelude.{◌+ℤ◌, ◌-ℤ◌, ◌≤ℤ◌}
 use Rattle.life_core.specs.declared.cell.Cell.{Cell}
 use Rattle.life_core.specs.Cell.{moved_cell}
@@ -15,10 +15,10 @@ pub record IsInFrame (f : Frame) (c : Cell) : Type 0 where
   pub difference_from : f.differences.least ≤ℤ (c.row -ℤ c.column)
   pub difference_to : (c.row -ℤ c.column) ≤ℤ f.differences.greatest
 
--- what lies in the first box lies in the second
+-- every cell of the first box lies in the second
 unfoldable pub IsWider : Frame → Frame → Type 0
 IsWider f g = (c : Cell) → IsInFrame f c → IsInFrame g c
 
--- what lies in the first box, moved by the columns and rows of v, lies in the second
+-- every cell of the first box, moved by the columns and rows of v, lies in the second
 unfoldable pub HasMoved : Frame → Cell → Frame → Type 0
 HasMoved f v g = (c : Cell) → IsInFrame f c → IsInFrame g (moved_cell v.column v.row c)

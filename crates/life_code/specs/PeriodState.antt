@@ -1,4 +1,4 @@
--- What the search for a period says of what it found.
+-- Facts that the search for a period finds out.
 use Rattle.std.specs.Prelude.{ℕ, ◌≤◌, ℤ}
 use Rattle.life_core.specs.Pattern.{Cells}
 use Rattle.life_core.specs.Rule.{RuleSets}
@@ -6,7 +6,7 @@ use Rattle.life_code.specs.declared.kinds.Kind.{Kind}
 use Rattle.life_code.specs.declared.kinds.Kind.TheVariants.{Oscillator, Ship}
 use Rattle.life_code.specs.Period.{Returns}
 
--- the period of a kind, if it has one, is at most the limit
+-- the period of an oscillator or a spaceship is at most the limit
 abbrev pub PeriodWithin : ℕ → Kind → Type 0
 PeriodWithin limit (Oscillator p) = p ≤ limit
 PeriodWithin limit (Ship p dx dy) = p ≤ limit

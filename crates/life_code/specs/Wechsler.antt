@@ -23,11 +23,11 @@ height X = past_greatest (λ c. c.row) X
 abbrev pub character : ℕ → ℕ
 character n = if nat_lt n 10 then 48 + n else 87 + n
 
--- the value of such a character
+-- the value of such a character: `9` is 9, `a` is 10
 abbrev pub value_of : ℕ → ℕ
 value_of c = if nat_lt c 58 then c - 48 else c - 87
 
--- a run of n zero columns before another column: `0`, `w` and `x` for one, two and three, and `y` with a character for
+-- a run of n empty columns before another column: nothing for 0, `0`, `w` and `x` for 1 to 3, `y` and a character for
 -- 4 to 39
 abbrev pub zero_run : ℕ → List ℕ
 zero_run n =
@@ -37,7 +37,8 @@ zero_run n =
     else if n == 3 then letter_x ∷ []
     else letter_y ∷ character (n - 4) ∷ []
 
--- the columns of a strip, spelled after n zero columns: those of zero at the end are left out
+-- the text of the remaining columns after n empty ones: 1, 0, 0, 0, 0, 0, 2, 0 is `1y12`, without the empty column at
+-- the end
 unfoldable pub spelled : ℕ → List ℕ → List ℕ
 spelled n [] = []
 spelled n (value ∷ columns) =
@@ -49,7 +50,7 @@ spelled n (value ∷ columns) =
 abbrev pub bit_at : Cells → ℕ → ℕ → ℕ
 bit_at X x y = if set.contains X (cell_at (pos x, pos y)) then 1 else 0
 
--- the value of column x of strip s: its top row is the bit of value 1
+-- column x of strip s as a number, whose bit of value 1 is the top row: the glider `3o$2bo$bo!` has columns 1, 5 and 3
 unfoldable pub column_value : Cells → ℕ → ℕ → ℕ
 column_value X s x =
     bit_at X x (5 * s) + 2 * bit_at X x (5 * s + 1) + 4 * bit_at X x (5 * s + 2) + 8 * bit_at X x (5 * s + 3)
@@ -59,6 +60,6 @@ column_value X s x =
 unfoldable pub strip : Cells → ℕ → List ℕ
 strip X s = spelled 0 (map (column_value X s) (range_with_len 0 (width X)))
 
--- the texts of the strips of the box from the top, joined by `z`
+-- the texts of the strips from the top, joined by `z`; the glider above has one strip and the text `153`
 unfoldable pub wechsler : Cells → List ℕ
 wechsler X = join_with_byte letter_z (map (strip X) (range_with_len 0 ((height X + 4) / 5)))

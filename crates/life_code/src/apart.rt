@@ -1,4 +1,4 @@
-//! Parts of a pattern that move apart, so that it never returns.
+//! Finds parts of a pattern that never meet. If two of them move differently, the pattern never returns.
 ghost use Rattle.std.specs.Prelude.{◌≡◌, ◌≤◌, ◌<◌, ◌+ℤ◌, ◌-ℤ◌, length, slice_index_or, IfOk, IfSome, IsTrue};
 ghost use Rattle.std.specs.List.{All};
 ghost use Rattle.std.specs.FinSet as set;
@@ -13,12 +13,12 @@ use crate::period::PERIOD_LIMIT;
 use life_core::{Cell, Fault, Pattern, Plane, Rule};
 use std::alloc::{AllocError, Allocator};
 
-/// Patterns with more cells or more parts are not examined: that would take longer than their generations do.
+/// Patterns with more cells or parts are not examined: that would take longer than running them.
 const MOST_CELLS: usize = 4096;
 
 const MOST_PARTS: usize = 64;
 
-/// How a part of a pattern returns when it is alone, and the box of its cells until then.
+/// How a part would return if it were the only one, and the box of its cells until then.
 #[derive(Clone, Copy)]
 pub struct Orbit {
     pub period: u32,
@@ -28,7 +28,7 @@ pub struct Orbit {
 }
 
 impl Orbit {
-    /// Whether it stays more than 2 columns to the left of another.
+    /// `true` only if this part always stays more than 2 columns to the left of the other.
     fn keeps_left(&self, other: &Orbit) -> bool
         ensures { IsTrue result → KeepsLeft self.now other.now }
     {
@@ -38,7 +38,7 @@ impl Orbit {
         comes_no_nearer(self.period, self.dx, other.period, other.dx)
     }
 
-    /// Whether it stays more than 2 rows above another.
+    /// `true` only if this part always stays more than 2 rows above the other.
     fn keeps_above(&self, other: &Orbit) -> bool
         ensures { IsTrue result → KeepsAbove self.now other.now }
     {
@@ -48,7 +48,7 @@ impl Orbit {
         comes_no_nearer(self.period, self.dy, other.period, other.dy)
     }
 
-    /// How far it moves in each period, by the sum of row and column.
+    /// The motion along the sum of row and column; `None` on overflow.
     fn sum_drift(&self) -> Option<Drift>
         ensures { IfSome result (λ d. (d.period ≡ self.now.period) × (d.by ≡ self.now.dy +ℤ self.now.dx)) }
     {
@@ -61,7 +61,7 @@ impl Orbit {
         }
     }
 
-    /// How far it moves in each period, by the difference row - column.
+    /// The motion along the difference row - column; `None` on overflow.
     fn difference_drift(&self) -> Option<Drift>
         ensures { IfSome result (λ d. (d.period ≡ self.now.period) × (d.by ≡ self.now.dy -ℤ self.now.dx)) }
     {
@@ -74,7 +74,8 @@ impl Orbit {
         }
     }
 
-    /// Whether the sums of row and column of its cells stay more than 4 below those of another: whether it stays on the side of the upper left.
+    /// `true` only if this part stays on the upper left: its sums of row and column stay more than 4 below the
+    /// other's.
     fn keeps_upper_left(&self, other: &Orbit) -> bool
         ensures { IsTrue result → KeepsUpperLeft self.now other.now }
     {
@@ -87,7 +88,8 @@ impl Orbit {
         }
     }
 
-    /// Whether the differences row - column of its cells stay more than 4 below those of another: whether it stays on the side of the upper right.
+    /// `true` only if this part stays on the upper right: its differences row - column stay more than 4 below the
+    /// other's.
     fn keeps_upper_right(&self, other: &Orbit) -> bool
         ensures { IsTrue result → KeepsUpperRight self.now other.now }
     {
@@ -104,7 +106,7 @@ impl Orbit {
         }
     }
 
-    /// Whether it is seen that it stays on one side of another: to the left, above, or beyond a diagonal.
+    /// Whether we can show that this part stays on one side of the other: to its left, above it, or beyond a diagonal.
     fn keeps_aside(&self, other: &Orbit) -> bool
         ensures { IsTrue result → KeepsAside self.now other.now }
     {
@@ -120,7 +122,7 @@ impl Orbit {
         self.keeps_upper_right(other)
     }
 
-    /// Whether it is seen that the two are never near each other.
+    /// Whether we can show that the two are never near each other.
     fn keeps_apart(&self, other: &Orbit) -> bool
         ensures { IsTrue result → KeepApart self.now other.now }
     {
@@ -130,8 +132,8 @@ impl Orbit {
         other.keeps_aside(self)
     }
 
-    /// Whether the two can be seen to move differently.
-    fn moves_otherwise(&self, other: &Orbit) -> bool
+    /// Compares the moves over the product of both periods. An overflow counts as no difference.
+    fn moves_differently(&self, other: &Orbit) -> bool
         ensures { IsTrue result → MoveDifferently self.now other.now }
     {
         let period = i64::from(self.period);
@@ -154,7 +156,7 @@ impl Orbit {
     }
 }
 
-/// How far something moves in a direction in this many generations.
+/// A motion along one direction: `by` in every `period` generations.
 #[derive(Clone, Copy)]
 struct Drift {
     period: u32,
@@ -162,7 +164,8 @@ struct Drift {
 }
 
 impl Drift {
-    /// Whether what drifts so comes no nearer to what lies after it and drifts like the other.
+    /// Whether we can show that a part drifting like this never gets closer to a part after it that drifts like
+    /// `other`.
     fn comes_no_nearer(self, other: Drift) -> bool
         ensures { IsTrue result → ComesNoNearer self.period self.by other.period other.by }
     {
@@ -170,8 +173,8 @@ impl Drift {
     }
 }
 
-/// Whether what moves by `here` in each period comes no nearer to what lies after it and moves by `there` in
-/// each period of its own.
+/// Whether we can show that a part never gets closer to the part after it. They move by `here` and `there` in their
+/// periods.
 fn comes_no_nearer(period: u32, here: i64, other_period: u32, there: i64) -> bool
     ensures { IsTrue result → ComesNoNearer period here other_period there }
 {
@@ -181,14 +184,14 @@ fn comes_no_nearer(period: u32, here: i64, other_period: u32, there: i64) -> boo
     period == other_period && here <= there
 }
 
-/// A part of a pattern, and the orbit that it goes when it is alone.
+/// A part of a pattern with its orbit.
 #[derive(Drop)]
 pub struct Moving<A: Allocator> {
     pub part: Pattern<A>,
     pub orbit: Orbit,
 }
 
-/// The orbit of a part, if it comes back within the limit of generations.
+/// Runs the part for up to `limit` generations. `None` if it doesn't return by then, or is empty.
 fn orbit_of<A: Allocator + Copy, P: Plane<A>>(
     alloc: A,
     rule: &Rule,
@@ -221,7 +224,7 @@ fn orbit_of<A: Allocator + Copy, P: Plane<A>>(
     Ok(None)
 }
 
-/// The orbit of a part that is a known one, moved.
+/// The orbit of a known part of which this one is a translated copy. Ash has many copies of few objects.
 fn known_orbit<A: Allocator>(rule: &Rule, known: &[Moving<A>], part: &Pattern<A>) -> Option<Orbit>
     requires { All (IsMoving rule.now) known.now }
     ensures { IfSome result (IsOrbit rule.now part.now) }
@@ -239,8 +242,8 @@ fn known_orbit<A: Allocator>(rule: &Rule, known: &[Moving<A>], part: &Pattern<A>
     None
 }
 
-/// The orbit of a part, if it is known or is found; then it is known.
-fn learnt_orbit<A: Allocator + Copy, P: Plane<A>>(
+/// Like [`orbit_of`], but looks among the known parts first, and adds the part to them if it is new.
+fn cached_orbit<A: Allocator + Copy, P: Plane<A>>(
     alloc: A,
     rule: &Rule,
     part: &Pattern<A>,
@@ -264,7 +267,7 @@ fn learnt_orbit<A: Allocator + Copy, P: Plane<A>>(
     Ok(Some(orbit))
 }
 
-/// The cells that lie in a box, and the others.
+/// Splits the cells into those inside a box and the others.
 fn parted<A: Allocator + Copy>(
     alloc: A,
     cells: &[Cell],
@@ -284,7 +287,7 @@ fn parted<A: Allocator + Copy>(
     Ok((inside, outside))
 }
 
-/// Whether it is seen that an orbit is never near those of the parts.
+/// Whether we can show that an orbit is never near the orbits of the parts.
 fn keeps_apart_from<A: Allocator>(parts: &[Moving<A>], orbit: &Orbit) -> bool
     ensures { IsTrue result → KeepsApartFrom parts.now orbit.now }
 {
@@ -296,7 +299,7 @@ fn keeps_apart_from<A: Allocator>(parts: &[Moving<A>], orbit: &Orbit) -> bool
     true
 }
 
-/// The cells as a part that comes back within the limit and is never near the other parts, if that is seen.
+/// The cells as a part, if it returns within the limit and we can show that it is never near the other parts.
 fn moving_part<A: Allocator + Copy, P: Plane<A>>(
     alloc: A,
     rule: &Rule,
@@ -314,7 +317,7 @@ fn moving_part<A: Allocator + Copy, P: Plane<A>>(
     ensures apart { IfOk result (λ o. IfSome o (λ m. KeepsApartFrom parts.now m.orbit)) }
 {
     let part = Pattern::from_list(cells)?;
-    let Some(orbit) = learnt_orbit::<A, P>(alloc, rule, &part, limit, known)? else {
+    let Some(orbit) = cached_orbit::<A, P>(alloc, rule, &part, limit, known)? else {
         return Ok(None);
     };
     if !keeps_apart_from(parts, &orbit) {
@@ -323,7 +326,7 @@ fn moving_part<A: Allocator + Copy, P: Plane<A>>(
     Ok(Some(Moving { part, orbit }))
 }
 
-/// Whether two of the parts move differently.
+/// Comparing each part with the first is enough: if all move like the first, no two differ.
 fn some_move_differently<A: Allocator>(parts: &[Moving<A>]) -> bool
     ensures { IsTrue result → SomeMoveDifferently parts.now }
 {
@@ -331,15 +334,15 @@ fn some_move_differently<A: Allocator>(parts: &[Moving<A>]) -> bool
         return false;
     }
     for part in parts {
-        if part.orbit.moves_otherwise(&parts[0].orbit) {
+        if part.orbit.moves_differently(&parts[0].orbit) {
             return true;
         }
     }
     false
 }
 
-/// The parts of a pattern, if it is seen that each comes back within the limit, and that no two of them are ever
-/// near at one time. Patterns with parts larger than `largest` are not examined.
+/// The parts of a pattern, if each returns within the limit and we can show that no two are ever near each other.
+/// Patterns with parts larger than `largest` are not examined.
 pub fn moving_parts<A: Allocator + Copy, P: Plane<A>>(
     alloc: A,
     rule: &Rule,
@@ -374,8 +377,8 @@ pub fn moving_parts<A: Allocator + Copy, P: Plane<A>>(
     Ok(Some(parts))
 }
 
-/// Whether it is seen that a pattern is made of parts that move apart, each of which comes back alone within the
-/// limit of generations: then it never comes back.
+/// Whether we can show that a pattern never returns, because it falls into parts that never meet and two of them move
+/// differently. Each part must return within the limit.
 pub fn moves_apart<A: Allocator + Copy, P: Plane<A>>(
     alloc: A,
     rule: &Rule,

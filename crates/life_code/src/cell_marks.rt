@@ -8,7 +8,7 @@ ghost use Rattle.life_code.specs.CellMarksState.{Marks, Shows};
 use life_core::{Cell, Pattern, Run};
 use std::alloc::Allocator;
 
-/// The index of the cell in the box, row by row, if the box has it.
+/// `None` if the cell lies outside the box.
 fn index_of(cell: Cell) -> Option<u16>
     ensures { MatchOption result ((i : ℕ) → i < 1600 → cell ≢ cell_of_index i) (λ i. (i < 1600) × (cell ≡ cell_of_index i)) }
 {
@@ -27,7 +27,7 @@ fn index_of(cell: Cell) -> Option<u16>
     Some(40 * row + column)
 }
 
-/// Marks a cell, if the box has it.
+/// Ignores a cell outside the box.
 fn mark_cell(flags: &mut [bool; 1600], cell: Cell)
     ensures { (cells : List CellValue) → Marks flags.old cells → Marks flags.new (cells ++ cell ∷ []) }
 {
@@ -36,7 +36,6 @@ fn mark_cell(flags: &mut [bool; 1600], cell: Cell)
     }
 }
 
-/// Marks the cells of a run.
 fn mark_run(flags: &mut [bool; 1600], run: Run)
     ensures { (cells : List CellValue) → Marks flags.old cells → Marks flags.new (cells ++ run_cells run) }
 {
@@ -45,7 +44,6 @@ fn mark_run(flags: &mut [bool; 1600], run: Run)
     }
 }
 
-/// Marks the cells of runs in an empty box.
 fn mark_runs(runs: &[Run]) -> [bool; 1600]
     ensures { Marks result (runs_cells runs.now) }
 {
@@ -56,7 +54,7 @@ fn mark_runs(runs: &[Run]) -> [bool; 1600]
     flags
 }
 
-/// The flags of the cells of the box, row by row.
+/// Copies the pattern into a box of flags, one for each cell.
 pub(crate) fn marked<A: Allocator>(pattern: &Pattern<A>) -> [bool; 1600]
     ensures { Shows result pattern.now }
 {

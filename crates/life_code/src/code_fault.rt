@@ -1,4 +1,4 @@
-//! Why a code can't be opened.
+//! The faults of [`open_code`](crate::open_code).
 ghost use Rattle.std.specs.Prelude.{◌≡◌};
 
 use life_core::Fault;
@@ -20,14 +20,14 @@ pub enum CodeFault {
 impl CodeFault {
     ghost use Rattle.life_code.specs.CodeFault.{label_of};
 
-    /// The fault's number, from 1 on.
+    /// The number that clients see.
     pub fn number(self) -> u8
         ensures { result ≡ (label_of self).number }
     {
         self as u8
     }
 
-    /// The name of the fault, in lower case.
+    /// The name that clients see, such as `bad-text`.
     pub fn name(self) -> &'static str
         ensures { result.now ≡ (label_of self).name }
     {

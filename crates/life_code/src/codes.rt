@@ -1,4 +1,4 @@
-//! The least text of a periodic pattern, and its code.
+//! The code of a periodic pattern: the least text among its phases in all orientations.
 ghost use Rattle.std.specs.Prelude.{◌≡◌, ◌≤◌, ◌+◌, ◌++◌, ◌∷◌, Option, Some, List, ℕ, OnOk, IfOk};
 ghost use Rattle.std.specs.Fmt.{decimal};
 ghost use Rattle.std.specs.FinSet as set;
@@ -16,10 +16,10 @@ use life_core::{Fault, Orientation, Pattern, Rule, generation};
 use std::alloc::{AllocError, Allocator};
 use std::cmp::Ordering;
 
-/// The most columns and rows of a box whose text is a candidate.
+/// The largest box that a code can spell, in columns and in rows, as in apgcodes.
 pub(crate) const LARGEST_BOX: u64 = 40;
 
-/// Which of two texts comes first: the shorter one or, if they have the same length, the smaller one by bytes.
+/// The shorter text comes first; texts of the same length are ordered by their bytes.
 fn compare_texts(a: &[u8], b: &[u8]) -> Ordering
     ensures { result ≡ text_cmp a.now b.now }
 {
@@ -29,7 +29,7 @@ fn compare_texts(a: &[u8], b: &[u8]) -> Ordering
     }
 }
 
-/// The columns and rows of the box of a normal pattern.
+/// Width and height; (0, 0) for the empty pattern.
 fn extents<A: Allocator>(pattern: &Pattern<A>) -> (u64, u64)
     requires { normal pattern.now ≡ pattern.now }
     ensures columns { result.0 ≡ width pattern.now }
@@ -41,7 +41,7 @@ fn extents<A: Allocator>(pattern: &Pattern<A>) -> (u64, u64)
     }
 }
 
-/// The text of a normal pattern, if its box is small enough.
+/// `None` if the box is larger than 40 by 40.
 pub(crate) fn text_of<A: Allocator + Copy>(
     alloc: A,
     pattern: &Pattern<A>,
@@ -57,7 +57,7 @@ pub(crate) fn text_of<A: Allocator + Copy>(
     }
 }
 
-/// Keeps the smaller of the least text so far and this text.
+/// Replaces the best text so far, if this one is not greater.
 fn keep_lesser<A: Allocator>(best: &mut Option<Vec<u8, A>>, text: Vec<u8, A>)
     ensures { bytes_of best.new ≡ Some (lesser text.items (bytes_of best.old)) }
 {
@@ -70,7 +70,7 @@ fn keep_lesser<A: Allocator>(best: &mut Option<Vec<u8, A>>, text: Vec<u8, A>)
     }
 }
 
-/// Keeps the smaller of the least text so far and the text of a phase in an orientation.
+/// Tests one candidate. Its box may be too large; then `best` stays.
 fn keep_turned<A: Allocator + Copy>(
     alloc: A,
     phase: &Pattern<A>,
@@ -87,7 +87,7 @@ fn keep_turned<A: Allocator + Copy>(
     Ok(())
 }
 
-/// Keeps the least of the least text so far and the texts of a phase in all orientations.
+/// Tests a phase in all eight orientations.
 fn keep_phase<A: Allocator + Copy>(
     alloc: A,
     phase: &Pattern<A>,
@@ -102,7 +102,7 @@ fn keep_phase<A: Allocator + Copy>(
     Ok(())
 }
 
-/// The least candidate among the first phases of a pattern.
+/// The least of up to 8 texts for each phase; `None` if no phase fits into 40 by 40 cells.
 fn least_text<A: Allocator + Copy>(
     alloc: A,
     rule: &Rule,
@@ -124,7 +124,7 @@ fn least_text<A: Allocator + Copy>(
     Ok(best)
 }
 
-/// A code: its prefix, its number and the text of its pattern.
+/// Writes a code, such as `xp2_7` from `xp`, 2 and `7`.
 fn code_text<A: Allocator>(
     alloc: A,
     prefix: &str,
@@ -138,7 +138,6 @@ fn code_text<A: Allocator>(
     Ok(code)
 }
 
-/// The code with a prefix and a number, if there is a text.
 fn with_prefix<A: Allocator>(
     alloc: A,
     prefix: &str,
@@ -153,7 +152,7 @@ fn with_prefix<A: Allocator>(
     }
 }
 
-/// The text of the code of a pattern of this kind, if it has one.
+/// The code for a known kind. Runs the phases again, since the search for the period doesn't store them.
 pub(crate) fn code_by_kind<A: Allocator + Copy>(
     alloc: A,
     rule: &Rule,

@@ -1,4 +1,4 @@
-//! Decoding the cells of a Wechsler text.
+//! Decodes a Wechsler text, the part of a code after the `_`, into cells.
 ghost use Rattle.std.specs.Prelude.{◌≡◌, ◌≢◌, ◌<◌, ◌≤◌, ◌+◌, ◌^◌, ◌%◌, ◌/◌, ◌∷◌, List, ℕ, IfOk, false, map};
 ghost use Rattle.std.specs.List.{filter, range_with_len};
 ghost use Rattle.life_code.specs.DecodeState.{spells_cell, is_live, AreBlank, cell_of_index, decoded};
@@ -8,13 +8,12 @@ use crate::codes::LARGEST_BOX;
 use life_core::{Cell, Fault, Pattern};
 use std::alloc::{AllocError, Allocator};
 
-/// The columns of the box.
 const COLUMNS: u16 = LARGEST_BOX as u16;
 
-/// The places of the box.
+/// The number of cells in the box.
 const CELLS: u16 = COLUMNS * COLUMNS;
 
-/// The value of a character.
+/// `0` to `9` are 0 to 9, and `a` to `z` are 10 to 35. Other bytes get a value too; `open_code` rejects them later.
 fn value_of(c: u8) -> u8
     ensures { result ≡ value_of c }
 {
@@ -25,7 +24,7 @@ fn value_of(c: u8) -> u8
     }
 }
 
-/// The part of the box of 40 by 40 that has been read from a text.
+/// The columns of the box that a prefix of the text spells.
 #[derive(Drop)]
 struct CodeReader {
     /// The values of the columns of each strip of five rows, from the top.
@@ -33,7 +32,7 @@ struct CodeReader {
     /// The strip and the column at which the text continues.
     strip: u128,
     column: u128,
-    /// Whether the byte before was `y`.
+    /// Whether the last byte was `y`: the next one is the length of a run of zeros.
     after_y: bool,
     ghost blank: { AreBlank columns strip column },
 }
@@ -54,7 +53,7 @@ impl CodeReader {
         }
     }
 
-    /// Goes to the next strip.
+    /// Handles `z`: the next strip begins.
     fn end_strip(&mut self)
         requires plain { self.old.after_y ≡ false }
         requires strip { self.old.strip < 2 ^ 127 }
@@ -66,7 +65,7 @@ impl CodeReader {
         self.column = 0;
     }
 
-    /// Keeps the column of a character.
+    /// Handles a column with live cells. Columns beyond the box are ignored.
     fn keep(&mut self, c: u8)
         requires plain { self.old.after_y ≡ false }
         requires column { self.old.column < 2 ^ 127 }
@@ -85,7 +84,7 @@ impl CodeReader {
         self.column += 1;
     }
 
-    /// Goes over columns of zero.
+    /// Skips columns without live cells.
     fn skip(&mut self, columns: u16)
         requires column { self.old.column < 2 ^ 127 }
         ensures cells { self.new.columns ≡ self.old.columns }
@@ -97,7 +96,6 @@ impl CodeReader {
         self.after_y = false;
     }
 
-    /// Goes over one byte of the text.
     #[tactic(auto, unfolding(crate::specs::DecodeState::spells_cell))]
     fn read(&mut self, c: u8)
         requires column { self.old.column < 2 ^ 127 }
@@ -120,7 +118,7 @@ impl CodeReader {
         }
     }
 
-    /// Whether the cell of this index is live.
+    /// `index` counts the cells of the box row by row.
     fn is_live(&self, index: u16) -> bool
         requires { index < CELLS }
         ensures { result ≡ is_live self.now.columns (index % COLUMNS) (index / COLUMNS) }
@@ -131,7 +129,6 @@ impl CodeReader {
     }
 }
 
-/// Reads the whole text.
 fn read_text(text: &[u8]) -> CodeReader
     ensures { (x y : ℕ) → x < 40 → y < 40 → spells_cell 0 false text.now x y ≡ is_live result.columns x y }
 {
@@ -142,7 +139,6 @@ fn read_text(text: &[u8]) -> CodeReader
     reader
 }
 
-/// The cell of this index in the box, row by row.
 fn cell_of_index(index: u16) -> Cell
     ensures { result ≡ cell_of_index index }
 {
@@ -152,7 +148,7 @@ fn cell_of_index(index: u16) -> Cell
     }
 }
 
-/// The live cells of the first places of the box.
+/// The live cells among the first `places` of the box, in row order.
 fn live_cells<A: Allocator>(
     alloc: A,
     reader: &CodeReader,
@@ -167,7 +163,7 @@ fn live_cells<A: Allocator>(
         .collect(alloc)
 }
 
-/// The cells of the box of 40 by 40 that the text spells. The text is read once.
+/// The cells that any text spells, valid or not; cells outside the box of 40 by 40 are left out.
 pub(crate) fn decoded<A: Allocator + Copy>(alloc: A, text: &[u8]) -> Result<Pattern<A>, Fault>
     ensures { IfOk result (λ X. X ≡ decoded text.now) }
 {

@@ -1,4 +1,4 @@
-//! Patterns that are seen to grow for ever or to come apart, so that they never come back.
+//! Tests that show that a pattern never returns, because it grows for ever or falls apart.
 ghost use Rattle.std.specs.Prelude.{◌≡◌, ◌≤◌, ℤ, pos, ◌+ℤ◌, ◌-ℤ◌, false, IfOk, IfSome, IsTrue};
 ghost use Rattle.std.specs.FinSet as set;
 ghost use Rattle.life_core.specs.Cell.{cell_at};
@@ -12,7 +12,6 @@ use crate::period::PERIOD_LIMIT;
 use life_core::{Bounds, Cell, Fault, Pattern, Plane, Rule, Run};
 use std::alloc::Allocator;
 
-/// The first cell of a run.
 fn first_cell(run: Run) -> Cell
     ensures { result ≡ cell_at (run.first, run.row) }
 {
@@ -22,7 +21,6 @@ fn first_cell(run: Run) -> Cell
     }
 }
 
-/// The cell this many columns to the left of a run's first one.
 fn cell_before(run: Run, columns: u32) -> Cell
     ensures { result ≡ cell_at (run.first -ℤ pos columns, run.row) }
 {
@@ -32,7 +30,7 @@ fn cell_before(run: Run, columns: u32) -> Cell
     }
 }
 
-/// Whether the two cells on either side of a run of two are dead.
+/// Whether the two nearest cells on either side of a pair are dead.
 fn is_alone<A: Allocator>(pattern: &Pattern<A>, run: Run) -> bool
     ensures { IsTrue result → IsAlone pattern.now run.first run.row }
 {
@@ -48,7 +46,7 @@ fn is_alone<A: Allocator>(pattern: &Pattern<A>, run: Run) -> bool
     !pattern.contains(run.cell(3))
 }
 
-/// Whether a run begins with a pair that has a pair beyond it one generation later.
+/// Whether a run begins with a pair that gives birth to another pair one row further out.
 fn is_pair<A: Allocator>(rule: &Rule, pattern: &Pattern<A>, run: Run) -> bool
     ensures { IsTrue result → HasPair rule.now pattern.now run.first run.row }
 {
@@ -64,7 +62,6 @@ fn is_pair<A: Allocator>(rule: &Rule, pattern: &Pattern<A>, run: Run) -> bool
     is_alone(pattern, run)
 }
 
-/// Whether a run lies in the row and begins with such a pair.
 fn is_pair_of_row<A: Allocator>(rule: &Rule, pattern: &Pattern<A>, run: Run, row: i64) -> bool
     ensures { IsTrue result → HasPair rule.now pattern.now run.first row }
 {
@@ -74,7 +71,7 @@ fn is_pair_of_row<A: Allocator>(rule: &Rule, pattern: &Pattern<A>, run: Run, row
     is_pair(rule, pattern, run)
 }
 
-/// Whether a run of the row begins with such a pair.
+/// Whether any run of this row begins with such a pair.
 fn has_pair<A: Allocator>(rule: &Rule, pattern: &Pattern<A>, row: i64) -> bool
     ensures { IsTrue result → (x : ℤ) × HasPair rule.now pattern.now x row }
 {
@@ -86,7 +83,7 @@ fn has_pair<A: Allocator>(rule: &Rule, pattern: &Pattern<A>, row: i64) -> bool
     false
 }
 
-/// The last row of a box, if the numbers fit.
+/// `None` on overflow.
 fn last_row(bounds: Bounds) -> Option<i64>
     ensures { IfSome result (λ y. y ≡ (bounds.top +ℤ pos bounds.height) -ℤ pos 1) }
 {
@@ -94,7 +91,8 @@ fn last_row(bounds: Bounds) -> Option<i64>
     bounds.top.checked_add(height)?.checked_sub(1)
 }
 
-/// Whether the pattern has pairs in its first and its last row that reach one row further in each generation, for ever.
+/// Whether pairs in the first and the last row reach one row further in each generation, for ever. Only tested under
+/// rules with a birth at 2 neighbours and none at 1.
 pub fn grows_for_ever<A: Allocator>(rule: &Rule, pattern: &Pattern<A>) -> bool
     ensures { IsTrue result → NeverReturns rule.now pattern.now }
 {
@@ -116,8 +114,8 @@ pub fn grows_for_ever<A: Allocator>(rule: &Rule, pattern: &Pattern<A>) -> bool
     has_pair(rule, pattern, bottom)
 }
 
-/// Whether it is seen that a pattern never comes back: it grows for ever, or it is made of parts that move apart, each
-/// of which comes back alone within the limit of generations.
+/// Whether we can show that a pattern never returns: it grows for ever, or parts of it move apart. A part must return
+/// within `limit` generations.
 pub fn is_past_return<A: Allocator + Copy, P: Plane<A>>(
     alloc: A,
     rule: &Rule,

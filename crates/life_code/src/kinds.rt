@@ -1,8 +1,8 @@
-//! Kinds of patterns.
+//! The kind of a pattern: still life, oscillator, spaceship or unresolved.
 ghost use Rattle.std.specs.Prelude.{◌≡◌};
 ghost use Rattle.life_code.specs.Period.{kind_of_period};
 
-/// How a pattern behaves within a limit of generations.
+/// How a pattern repeats, if it does so within a limit on the period.
 #[derive(Clone, Copy, Debug, PartialEq, Eq)]
 pub enum Kind {
     /// It has no cell.
@@ -17,7 +17,7 @@ pub enum Kind {
     Unresolved,
 }
 
-/// The kind of a pattern of this period that moves by this many columns and rows in it.
+/// One period moves the pattern `dx` columns to the right and `dy` rows down.
 pub(crate) fn kind_of_period(period: u32, dx: i64, dy: i64) -> Kind
     ensures { result ≡ kind_of_period period dx dy }
 {

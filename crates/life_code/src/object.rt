@@ -1,4 +1,4 @@
-//! Patterns with their codes.
+//! Objects: patterns together with their codes.
 ghost use Rattle.std.specs.Prelude.{◌≡◌, ◌≢◌, ◌≤◌, ◌↔◌, None, Some, IfOk, IsTrue, MatchOption};
 ghost use Rattle.life_core.specs.Pattern.{Cells, IsWithin};
 ghost use Rattle.life_code.specs.Period.{kind_of, IsSearchable, IsKindOf};
@@ -12,8 +12,8 @@ use life_core::{Fault, Pattern, Rule};
 use std::alloc::{Allocator, Global};
 use std::marker::Model;
 
-/// A pattern with its code under a rule and a limit on the period. Only `code` and
-/// `code_of_kind` make one.
+/// A pattern with its code under a rule and a limit on the period. Only [`code`] and [`code_of_kind`] make one, so the
+/// code is always right.
 #[derive(Debug, Drop)]
 pub struct Coded<A: Allocator = Global> {
     rule: Rule,
@@ -35,7 +35,7 @@ impl<A: Allocator> Model for Coded<A> {
 }
 
 impl<A: Allocator> Coded<A> {
-    /// The code.
+    /// The code as ASCII, such as `xq4_153`.
     pub fn text(&self) -> &[u8]
         ensures { result.now ≡ self.now.text }
     {
@@ -43,8 +43,7 @@ impl<A: Allocator> Coded<A> {
     }
 }
 
-/// The pattern with its code, as [`code`] gives it, if its kind under the limit is known already:
-/// no period is searched.
+/// Like [`code`], if the kind under this limit is already known: that saves the search for the period.
 pub fn code_of_kind<A: Allocator + Copy>(
     alloc: A,
     rule: &Rule,
@@ -66,8 +65,8 @@ pub fn code_of_kind<A: Allocator + Copy>(
     }
 }
 
-/// The pattern with its code under a limit of the period, if it has one: it has none if it is
-/// empty, if it is not back within the limit, and if no phase of it fits in a box of 40 by 40.
+/// The pattern with its code, if it has one. It has none if it is empty, if it doesn't return within the limit, or if
+/// no phase fits into 40 by 40 cells.
 pub fn code<A: Allocator + Copy>(
     alloc: A,
     rule: &Rule,
@@ -76,15 +75,15 @@ pub fn code<A: Allocator + Copy>(
 ) -> Result<Option<Coded<A>>, Fault>
     requires { IsSearchable limit pattern.now }
     ensures value { IfOk result (IsCodeOf rule.now pattern.now limit) }
-    // All patterns that are the same object have the same code, or none each.
+    // All patterns that are one object have the same code, or all lack one.
     ensures object { IfOk result (λ o. (X : Cells) → Same rule.now X pattern.now → MatchOption o (code_of rule.now X limit ≡ None) (λ c. code_of rule.now X limit ≡ Some c.text)) }
 {
     let kind = kind(alloc, rule, pattern, limit)?;
     code_of_kind(alloc, rule, pattern, limit, kind)
 }
 
-/// Whether the patterns are one object: whether their rules are one, and an orientation and a move
-/// take a phase of the one to the other. The limits under which they were coded play no part.
+/// Whether the patterns are one object: the rules are equal, and a phase of one, turned, reflected or moved, is the
+/// other. The limits don't matter.
 pub fn same_object<A: Allocator>(a: &Coded<A>, b: &Coded<A>) -> bool
     ensures { IsTrue result ↔ (a.now.rule ≡ b.now.rule) × Same a.now.rule a.now.cells b.now.cells }
 {

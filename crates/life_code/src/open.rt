@@ -1,4 +1,4 @@
-//! From a code to the pattern that it spells.
+//! Opens a code: from a text such as `xq4_153` to its pattern.
 ghost use Rattle.std.specs.Prelude.{◌≡◌, ◌≢◌, ◌≤◌, ◌↔◌, Some, IfOk, IfErr, IsTrue, MatchOption};
 ghost use Rattle.std.specs.Prelude.{◌==◌};
 ghost use Rattle.std.specs.Char.{is_ascii_digit};
@@ -16,14 +16,13 @@ use crate::period::{PERIOD_LIMIT, kind};
 use life_core::{Fault, Pattern, Rule};
 use std::alloc::{AllocError, Allocator};
 
-/// Whether the bytes are digits.
 fn are_digits(bytes: &[u8]) -> bool
     ensures { result ≡ list_all is_ascii_digit bytes.now }
 {
     bytes.iter().all(|b| b.is_ascii_digit())
 }
 
-/// Whether the bytes are a number of a code: one to six digits, the first of them not `0`.
+/// One to six digits without a leading 0. Six are enough: a population is at most 1600, and a period at most 2048.
 fn is_number(bytes: &[u8]) -> bool
     ensures { result ≡ is_number bytes.now }
 {
@@ -33,14 +32,14 @@ fn is_number(bytes: &[u8]) -> bool
     }
 }
 
-/// Whether the bytes are a prefix of a code.
+/// `xs` for still lifes, `xp` for oscillators, `xq` for spaceships.
 fn is_prefix(bytes: &[u8]) -> bool
     ensures { IsTrue result ↔ IsPrefix bytes.now }
 {
     bytes == "xs".as_bytes() || bytes == "xp".as_bytes() || bytes == "xq".as_bytes()
 }
 
-/// Whether the bytes are a prefix and a number.
+/// Whether the bytes are the part of a code before the `_`, such as `xq4`.
 fn is_front(front: &[u8]) -> bool
     ensures { IsTrue result ↔ IsFront front.now }
 {
@@ -50,11 +49,11 @@ fn is_front(front: &[u8]) -> bool
     }
 }
 
-/// The most bytes that a Wechsler text has: a byte for each column of each strip of five rows, and a
-/// `z` after each strip.
+/// The length of the longest Wechsler text. Each of 8 strips has a byte for each of 40 columns, and a `z` after it.
 const LONGEST_TEXT: usize = (LARGEST_BOX / 5 * (LARGEST_BOX + 1)) as usize;
 
-/// The pattern of a Wechsler text, if it is the text of one that is not empty.
+/// The pattern of a text in its only valid form. The text is decoded and encoded again: any other spelling gives
+/// `None`.
 fn read_wechsler<A: Allocator + Copy>(alloc: A, text: &[u8]) -> Result<Option<Pattern<A>>, Fault>
     ensures { IfOk result (λ o. MatchOption o ((X : Cells) → ¬ IsWechsler text.now X) (IsWechsler text.now)) }
 {
@@ -79,14 +78,13 @@ fn read_wechsler<A: Allocator + Copy>(alloc: A, text: &[u8]) -> Result<Option<Pa
     }
 }
 
-/// The index of the first `_`.
 fn first_mark(text: &[u8]) -> Option<usize>
     ensures { result ≡ position (λ b. b == 95) text.now }
 {
     text.iter().position(|b| *b == b'_')
 }
 
-/// The pattern that a text spells, if it spells one.
+/// `None` if the text doesn't have the form of a code. Its prefix and number are not compared with the pattern here.
 fn read_code<A: Allocator + Copy>(alloc: A, text: &[u8]) -> Result<Option<Pattern<A>>, Fault>
     ensures { IfOk result (λ o. MatchOption o ((X : Cells) → ¬ Spells text.now X) (Spells text.now)) }
 {
@@ -99,8 +97,8 @@ fn read_code<A: Allocator + Copy>(alloc: A, text: &[u8]) -> Result<Option<Patter
     read_wechsler(alloc, &text[mark + 1..])
 }
 
-/// The pattern that a code spells. A text that is refused, but for out of memory, is no pattern's code
-/// under the rule and the limit.
+/// The pattern that a code spells. Any fault except out of memory means that no pattern has this code under the rule
+/// and the limit.
 pub fn open_code<A: Allocator + Copy>(
     alloc: A,
     rule: &Rule,

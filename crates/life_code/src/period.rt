@@ -1,4 +1,4 @@
-//! The search for the period of a pattern.
+//! Finds the period of a pattern, and so its kind.
 ghost use Rattle.std.specs.Prelude.{◌≡◌, ◌↔◌, ◌≤◌, ◌+◌, ◌*◌, IfOk, IsTrue};
 ghost use Rattle.life_code.specs.Period.{IsSearchable, GivesKind};
 
@@ -7,13 +7,14 @@ use crate::kinds::{Kind, kind_of_period};
 use life_core::{CellList, Fault, PackedRows, Pattern, Plane, Rule, is_packed};
 use std::alloc::Allocator;
 
-/// The greatest valid limit on a period.
+/// The largest limit on the period that a call may pass.
 pub const PERIOD_LIMIT: u32 = 2048;
 
-/// The greatest period of the parts into which a pattern may fall.
+/// The longest period of a part that the test for parts moving apart looks for.
 const ORBIT_LIMIT: u32 = 60;
 
-/// The kind of the pattern under a limit of its period, found on planes of the kind `P`.
+/// Like [`kind`], computed on planes of type `P`. It runs at most `limit` generations, and tests at generations 1, 2,
+/// 4, 8 and so on whether the pattern can still return.
 pub fn kind_by<A: Allocator + Copy, P: Plane<A>>(
     alloc: A,
     rule: &Rule,
@@ -26,7 +27,7 @@ pub fn kind_by<A: Allocator + Copy, P: Plane<A>>(
     if pattern.population() == 0 {
         return Ok(Kind::Empty);
     }
-    // Under a birth at one neighbour each generation reaches further on every side.
+    // With a birth at one neighbour, the pattern grows on every side in each generation.
     if rule.is_live_next(false, 1) {
         return Ok(Kind::Unresolved);
     }
@@ -35,7 +36,7 @@ pub fn kind_by<A: Allocator + Copy, P: Plane<A>>(
     }
     let start = P::from_pattern(alloc, pattern)?;
     let mut plane = P::from_pattern(alloc, pattern)?;
-    // Generation `mark`. If it repeats and the pattern has not, the pattern never does.
+    // Generation `mark`. If it repeats although the pattern itself has not returned, the pattern never returns.
     let mut kept = P::from_pattern(alloc, pattern)?;
     let mut mark = 0;
     for period in 1..limit + 1 {
@@ -46,8 +47,8 @@ pub fn kind_by<A: Allocator + Copy, P: Plane<A>>(
         if kept.shift_to(&plane).is_some() {
             return Ok(Kind::Unresolved);
         }
-        // Generations 1, 2, 4, 8 and so on are kept, so that one of them soon lies in the cycle. The
-        // plane gives up the room that the cells have left.
+        // Keeps generations 1, 2, 4, 8 and so on, so that one of them soon lies in the cycle. The plane frees the room
+        // that the cells have left.
         if period >= 2 * mark {
             let here = plane.to_pattern(alloc)?;
             if here.population() == 0 {
@@ -64,7 +65,8 @@ pub fn kind_by<A: Allocator + Copy, P: Plane<A>>(
     Ok(Kind::Unresolved)
 }
 
-/// The kind of the pattern under a limit of its period.
+/// The kind of the pattern for periods up to `limit`. It steps packed rows if the pattern's box fits them, and otherwise
+/// a list of cells.
 pub fn kind<A: Allocator + Copy>(
     alloc: A,
     rule: &Rule,

@@ -1,4 +1,5 @@
-//! Generations of fields that settle: once a field is known to consist of parts that return and never meet, any later generation is computed directly.
+//! Generations of fields that settle. Once we can show that a field consists of parts that return and never meet, any
+//! later generation is computed directly.
 ghost use Rattle.std.specs.Prelude.{◌≡◌, ◌≤◌, ◌/◌, pos, ◌*ℤ◌, map, IfOk, IfSome, IsTrue};
 ghost use Rattle.std.specs.List.{All};
 ghost use Rattle.life_core.specs.Generations.{generation_of, HasRoomFor, GivesGeneration};
@@ -15,43 +16,45 @@ use life_core::{
 };
 use std::alloc::Allocator;
 
-/// The greatest period of the parts that are searched for. Longer ones are rare in ash.
+/// The longest period of a part that is searched for. Longer ones are rare in ash.
 const SETTLED_LIMIT: u32 = 4;
 
-/// The greatest size of a part's box, which is one less than its columns or its rows, whichever are more. A larger box nearly always
-/// holds something that is still active.
+/// The largest part that is examined, as the distance between its outermost columns or rows. A larger box nearly
+/// always contains something active.
 const LARGEST_PART: i64 = 24;
 
-/// The same at a soup. Six or more objects of its ash may lie within three cells of each other, in boxes of up to this size.
+/// Like [`LARGEST_PART`], for a soup. Six or more objects of its ash may lie within three cells of each other, in
+/// boxes of up to this size.
 const LARGEST_PART_OF_SOUP: i64 = 40;
 
-/// A field with more cells is not examined, and not looked at again.
+/// A field with more cells is not examined, and there are no later looks at it.
 const MOST_CELLS: usize = 1024;
 
-/// A pattern that has more cells at its start is not looked at: it hardly settles within [`GENERATION_LIMIT`].
+/// Patterns with more cells at the start are not looked at: they rarely settle within [`GENERATION_LIMIT`].
 const MOST_AT_START: usize = 8192;
 
-/// With fewer generations to come a look does not pay: it takes as long as some ten generations of an active field, or a hundred of a small one
-/// that has settled.
+/// A look doesn't pay if fewer generations are left. It takes as long as about 10 generations of an active field, or
+/// 100 of a small settled one.
 const LEAST_LEFT: u32 = 384;
 
-/// A multiple of all periods up to [`SETTLED_LIMIT`]. After a multiple of it, each part is in the same phase as now.
+/// The least common multiple of all periods up to [`SETTLED_LIMIT`]. After a multiple of it, each part has the same
+/// phase again.
 const ALL_PERIODS: u32 = 12;
 
-/// How the cells of a pattern lie at its start, as far as that says when it may settle.
+/// A guess from the density of the pattern about when it may settle.
 #[derive(Clone, Copy)]
 enum Start {
-    /// Few cells in a wide box: perhaps parts that never meet.
+    /// Few cells in a wide box, perhaps parts that never meet.
     Scattered,
     /// Dense like a random field, which soon becomes ash.
     Soup,
     /// Too many cells for a search of parts, perhaps the ash of a large soup.
     Large,
-    /// Any other: an oscillator, a ship, ash, a gun or a small pattern that takes long to settle.
+    /// Anything else: an oscillator, a spaceship, ash, a gun, or a small pattern that takes long to settle.
     Other,
 }
 
-/// How the cells of the pattern lie.
+/// Scattered means fewer than one live cell in 64. A soup has at least 48 live cells, and at least one in 4.
 fn start_of<A: Allocator>(pattern: &Pattern<A>) -> Start {
     let Some(bounds) = pattern.bounds() else {
         return Start::Other;
@@ -70,9 +73,10 @@ fn start_of<A: Allocator>(pattern: &Pattern<A>) -> Start {
     Start::Other
 }
 
-/// Whether to look at generation `i` of `n` whether the field has settled. Random fields of 16 by 16 cells settle after 490 generations on
-/// average, half of them after 250. The longer a field has not settled, the longer it will take, and the fewer looks are worth their time.
-/// Looks at such a field come in pairs, all periods apart: only if it has as many cells at the second as at the first is it examined.
+/// Whether to look, at generation `i` of `n`, if the field has settled. Random fields of 16 by 16 cells settle after
+/// 490 generations on average, half of them after 250. The longer a field stays active, the longer it will take, so
+/// looks become rarer. Looks at a soup come in pairs, [`ALL_PERIODS`] apart: the field is examined only if both count
+/// the same number of cells.
 fn is_look(start: Start, i: u32, n: u32) -> bool {
     let left = n.saturating_sub(i);
     if left < LEAST_LEFT || left % ALL_PERIODS != 0 {
@@ -89,8 +93,8 @@ fn is_look(start: Start, i: u32, n: u32) -> bool {
     }
 }
 
-/// Whether a field of `now` cells may have settled, if the last look found `before` cells. What has settled by one look has as many cells at
-/// the next, a multiple of all periods later. That spares most of the looks at soups that are still active.
+/// Whether a field of `now` cells may have settled, if the last look counted `before`. A settled field has the same
+/// count at both looks. That rules out most active soups without a search.
 fn may_be_settled(start: Start, before: usize, now: usize) -> bool {
     match start {
         Start::Soup => before == now,
@@ -98,7 +102,7 @@ fn may_be_settled(start: Start, before: usize, now: usize) -> bool {
     }
 }
 
-/// The greatest size of a part's box in a field that began so.
+/// The largest part to examine in a field that began like this.
 fn largest_part(start: Start) -> i64 {
     match start {
         Start::Soup => LARGEST_PART_OF_SOUP,
@@ -106,8 +110,8 @@ fn largest_part(start: Start) -> i64 {
     }
 }
 
-/// Whether to compare generation `i` of `n` with the pattern itself. Most oscillators and ships, and most ash, are back after 12 generations;
-/// those with parts of period 5, 10, 15 or 30 are after 60.
+/// Whether to compare generation `i` of `n` with the pattern itself. Most oscillators, spaceships and ash repeat after
+/// 12 generations. Those with parts of period 5, 10, 15 or 30 repeat after 60.
 fn is_return(start: Start, i: u32, n: u32) -> bool
     ensures { IsTrue result → 1 ≤ i }
 {
@@ -119,7 +123,7 @@ fn is_return(start: Start, i: u32, n: u32) -> bool
     }
 }
 
-/// How far moves by `by` in each period lead in all whole periods of `n` generations, if the numbers fit.
+/// The move over all complete periods in `n` generations, if each period moves by `by`; `None` on overflow.
 fn whole_moves(period: u32, by: Cell, n: u32) -> Option<Cell>
     requires { 1 ≤ period }
     ensures { IfSome result (λ v. (v.column ≡ pos (n / period) *ℤ by.column) × (v.row ≡ pos (n / period) *ℤ by.row)) }
@@ -131,7 +135,8 @@ fn whole_moves(period: u32, by: Cell, n: u32) -> Option<Cell>
     }
 }
 
-/// Generation `n` of a set that is back after `period` generations, moved by `by`, if the numbers fit.
+/// Generation `n` of a part that returns after `period` generations, moved by `by`. Runs only `n % period`
+/// generations; `None` on overflow.
 fn later_return<A: Allocator + Copy>(
     alloc: A,
     rule: &Rule,
@@ -146,14 +151,14 @@ fn later_return<A: Allocator + Copy>(
     requires room { IsWithin 500_000_000 part.now }
     ensures { IfOk result (λ o. IfSome o (λ X. X ≡ generation_of rule.now part.now n)) }
 {
-    let Some(way) = whole_moves(period, by, n) else {
+    let Some(total) = whole_moves(period, by, n) else {
         return Ok(None);
     };
     let phase = generation(alloc, rule, part, n % period)?;
-    Ok(Some(phase.moved(alloc, way.column, way.row)?))
+    Ok(Some(phase.moved(alloc, total.column, total.row)?))
 }
 
-/// Generation `n` of a part that goes its orbit, if the numbers fit.
+/// Generation `n` of one part, from its orbit; `None` on overflow.
 fn later_part<A: Allocator + Copy>(
     alloc: A,
     rule: &Rule,
@@ -171,7 +176,7 @@ fn later_part<A: Allocator + Copy>(
     later_return(alloc, rule, &moving.part, moving.orbit.period, by, n)
 }
 
-/// Generation `n` of parts that go their orbits, together.
+/// The union of generation `n` of all parts; `None` on overflow.
 fn later_parts<A: Allocator + Copy>(
     alloc: A,
     rule: &Rule,
@@ -207,7 +212,7 @@ fn generation_if_settled<A: Allocator + Copy, P: Plane<A>>(
     ensures known { All (IsMoving rule.now) known.new.items }
     ensures later { IfOk result (λ o. IfSome o (λ X. X ≡ generation_of rule.now field.now n)) }
 {
-    // For the proof alone: under no rule is a cell born without neighbours.
+    // Only for the proof: no rule gives birth to a cell without neighbours.
     let _quiet = rule.is_live_next(false, 0);
     match moving_parts::<A, P>(alloc, rule, field, SETTLED_LIMIT, largest, known)? {
         Some(parts) => later_parts(alloc, rule, &parts, n),
@@ -238,7 +243,7 @@ fn first_look<A: Allocator + Copy, P: Plane<A>>(
     }
 }
 
-/// Generation `n` of a pattern, if generation `i`, which the plane has, is the pattern itself, moved or not.
+/// Generation `n` of a pattern, if the plane's generation `i` is the pattern itself or a translated copy.
 fn repeated<A: Allocator + Copy, P: Plane<A>>(
     alloc: A,
     rule: &Rule,
@@ -260,7 +265,8 @@ fn repeated<A: Allocator + Copy, P: Plane<A>>(
     later_return(alloc, rule, pattern, i, Cell { row, column }, n)
 }
 
-/// The field of a plane, `n` generations later, if we can show that it has settled. `last` is how many cells the last look found.
+/// The field of a plane, `n` generations later, if we can show that it has settled. `last` is the number of cells at
+/// the last look.
 fn look<A: Allocator + Copy, P: Plane<A>>(
     alloc: A,
     rule: &Rule,
@@ -288,7 +294,7 @@ fn look<A: Allocator + Copy, P: Plane<A>>(
     generation_if_settled::<A, P>(alloc, rule, &field, largest_part(start), n, known)
 }
 
-/// Generation `n` of the pattern, made on a plane of the kind `P` until we can show that it has settled.
+/// Runs a plane of type `P` until we can show that the field has settled or repeats.
 fn settled_generation_by<A: Allocator + Copy, P: Plane<A>>(
     alloc: A,
     rule: &Rule,
@@ -323,7 +329,7 @@ fn settled_generation_by<A: Allocator + Copy, P: Plane<A>>(
     plane.to_pattern(alloc)
 }
 
-/// Whether it can pay to look whether a pattern settles in `n` generations. Under a birth at one or two neighbours fields grow and do not settle.
+/// Whether looks can pay. With births at one or two neighbours, fields grow and don't settle.
 fn may_settle<A: Allocator>(rule: &Rule, pattern: &Pattern<A>, n: u32) -> bool {
     n >= LEAST_LEFT
         && pattern.population() <= MOST_AT_START
@@ -331,7 +337,7 @@ fn may_settle<A: Allocator>(rule: &Rule, pattern: &Pattern<A>, n: u32) -> bool {
         && !rule.is_live_next(false, 2)
 }
 
-/// Generation `n` of the pattern, the same as from [`generation`](life_core::generation). Fields that settle soon take less time.
+/// The same pattern as from [`generation`](life_core::generation), in less time if the field settles soon.
 pub fn settled_generation<A: Allocator + Copy>(
     alloc: A,
     rule: &Rule,

@@ -1,4 +1,4 @@
-//! The extended Wechsler text of a pattern.
+//! Writes the extended Wechsler text of a pattern: the part of a code after the `_`.
 ghost use Rattle.std.specs.Prelude.{◌≡◌, ◌<◌, ◌≤◌, ◌++◌, OnOk, IfOk, map, length};
 ghost use Rattle.std.specs.List.{All, range_with_len};
 ghost use Rattle.life_code.specs.CellMarksState.{bit_of, shown_value};
@@ -20,7 +20,7 @@ fn character(value: u8) -> u8
     }
 }
 
-/// Writes a run of zero columns that comes before another column.
+/// Writes a run of empty columns: nothing for 0, `0`, `w` and `x` for 1 to 3, then `y` and a character.
 fn push_zero_run<A: Allocator>(text: &mut Vec<u8, A>, run: u8) -> Result<(), AllocError>
     requires { run < 40 }
     ensures { OnOk result (text.new.items ≡ text.old.items ++ zero_run run) }
@@ -38,7 +38,7 @@ fn push_zero_run<A: Allocator>(text: &mut Vec<u8, A>, run: u8) -> Result<(), All
     Ok(())
 }
 
-/// Writes the columns of a strip, those of zero at its end left out.
+/// Leaves out the empty columns at the end of the strip.
 fn push_strip<A: Allocator>(text: &mut Vec<u8, A>, columns: &[u8]) -> Result<(), AllocError>
     requires small { All (λ v. v < 32) columns.now }
     requires narrow { length columns.now ≤ 40 }
@@ -57,7 +57,6 @@ fn push_strip<A: Allocator>(text: &mut Vec<u8, A>, columns: &[u8]) -> Result<(),
     Ok(())
 }
 
-/// 1 if the flag is set.
 fn bit_of(flags: &[bool; 1600], index: u16) -> u8
     requires { index < 1600 }
     ensures { result ≡ bit_of flags.now index }
@@ -65,7 +64,7 @@ fn bit_of(flags: &[bool; 1600], index: u16) -> u8
     u8::from(flags[usize::from(index)])
 }
 
-/// The value of a column of a strip; the strip's top row is the bit of value 1.
+/// Five cells as a number: the strip's top row is the bit of value 1.
 fn column_value(flags: &[bool; 1600], strip: u8, column: u8) -> u8
     requires strip { strip < 8 }
     requires column { column < 40 }
@@ -79,7 +78,6 @@ fn column_value(flags: &[bool; 1600], strip: u8, column: u8) -> u8
         + 16 * bit_of(flags, top + 160)
 }
 
-/// The values of the first columns of a strip.
 fn column_values<A: Allocator>(
     alloc: A,
     flags: &[bool; 1600],
@@ -95,7 +93,7 @@ fn column_values<A: Allocator>(
         .collect(alloc)
 }
 
-/// The text of a normal pattern with this many columns and rows.
+/// Strips of five rows from the top, with a `z` between them.
 pub(crate) fn wechsler<A: Allocator + Copy>(
     alloc: A,
     pattern: &Pattern<A>,

@@ -1,4 +1,4 @@
--- A generation of a frame of whole blocks, and which blocks have it already.
+-- A generation of a frame of whole blocks, and the blocks that need no step because they have it already.
 use Rattle.std.specs.Prelude.{◌≡◌, ◌⊎◌, ℕ, ◌+◌, ◌-◌, ◌*◌, ◌<◌, ◌≤◌, false, List, length, nat_eq}
 use Rattle.std.proofs.Common.{sym, ap, subst, ◌∙◌, inl, inr, arith}
 use Rattle.std.specs.FinSet as set

@@ -1,4 +1,4 @@
--- Rules as normal forms: a form of flags gives them back at their digits.
+-- Rules as normal forms: the form of nine flags has the flags as its values.
 use Rattle.std.proofs.Common.{◌≡◌, ℕ, ◌+◌, ◌*◌, ◌%◌, ◌<◌, Bool, true, false, List, get_or, nat_eq, if◌then◌else◌, sym}
 use Rattle.std.proofs.Common.{ap, ◌∙◌, lit<, arith}
 use Rattle.std.specs.Int.{bit_at}

@@ -1,4 +1,4 @@
--- The bits of a word shifted by one place, with a carry from the word beside it.
+-- The bits of a word shifted by one place, with a carry from the next or the previous word.
 use Rattle.std.proofs.Common.{◌≡◌, ℕ, zero, suc, ◌+◌, ◌-◌, ◌*◌, ◌/◌, ◌%◌, ◌^◌, ◌<◌, ◌≤◌, max, List, get_or, ltb, lit<}
 use Rattle.std.proofs.Common.{lit≤, cond, refl, sym, ap, ◌∙◌, add-zero, add-one, inl, inr, arith}
 use Rattle.std.specs.Int.{bit_at}

@@ -1,7 +1,7 @@
 -- The number and the name of a fault or a refusal.
 use Rattle.std.specs.Prelude.{ℕ, List}
 
--- its number and its name
+-- a fault or refusal as replies and messages identify it: by its number, or by its name
 pub record Label : Type 0 where
   pub number : ℕ
   pub name : List ℕ

@@ -33,7 +33,7 @@ cells_of left top width words = set.from_list (map (cell_of left top width) (set
 abbrev pub framed : Frame → List ℕ → Cells
 framed f rows = cells_of f.left f.top (64 * f.words) rows
 
--- a frame that lies in a part of the plane where no sum wraps
+-- a nonempty frame near enough to the origin that no sum of coordinates wraps; its margins may lie outside the plane
 pub record IsFrame (f : Frame) : Type 0 where
   pub wide : 0 < f.words
   pub tall : 0 < f.height

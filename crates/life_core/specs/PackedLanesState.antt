@@ -12,7 +12,7 @@ abbrev pub sum_at : List ℕ → List ℕ → List ℕ → List ℕ → List ℕ
 sum_at above above2 sides sides2 below below2 p =
     digits_at above above2 p + (digits_at sides sides2 p + digits_at below below2 p)
 
--- in n words, exactly the places are set that are live next according to the counts of live neighbours
+-- a place of the n words is set exactly when it is live next, by the sum of its live neighbours
 abbrev pub AreNextLanes : RuleSets → ℕ → List ℕ → List ℕ → List ℕ → List ℕ → List ℕ → List ℕ → List ℕ → List ℕ → Type 0
 AreNextLanes r n here above above2 sides sides2 below below2 next =
     (p : ℕ) → p < 64 * n → sum_at above above2 sides sides2 below below2 p < 9

@@ -6,7 +6,7 @@ use Rattle.life_core.specs.declared.packed.frame.Frame.{Frame}
 use Rattle.life_core.specs.declared.packed.margins.Wider.{Wider}
 use Rattle.life_core.specs.Pattern.{Cells}
 
--- a frame of whole blocks of two words and sixteen rows, in three lines at the least
+-- a frame of whole blocks of two words and sixteen rows, in at least three lines
 pub record IsWhole (f : Frame) : Type 0 where
   pub wide : f.words ≡ 2 * (f.words / 2)
   pub tall : f.height ≡ 16 * (f.height / 16)
@@ -20,15 +20,15 @@ pub record IsAway (f : Frame) (n : ℕ) (c : Cell) : Type 0 where
   pub from_top : (f.top +ℤ pos (n + 17)) ≤ℤ c.row
   pub to_bottom : (c.row +ℤ pos (n + 18)) ≤ℤ (f.top +ℤ pos f.height)
 
--- all cells of X do, so that the frame has room for n generations after X, and no cell is at an edge after these
+-- all cells of X are that far away, so that the frame has room for n generations and no cell reaches an edge
 pub record HasSlack (f : Frame) (n : ℕ) (X : Cells) : Type 0 where
   pub away : (c : Cell) → set.contains X c ≡ true → IsAway f n c
 
--- for how many generations there is room, according to the margins, if there was room for n before
+-- for how many generations there is room after the margins are checked, which happens only if n is 0
 abbrev pub checked_room : ℕ → ℕ
 checked_room n = if nat_eq n 0 then 31 else n
 
--- a frame that contains f and has this many words and rows in front of it
+-- a frame that contains f and has w.left more words on the left and w.top more rows at the top
 pub record IsWider (f : Frame) (w : Wider) : Type 0 where
   pub left : w.frame.left ≡ f.left -ℤ pos (64 * w.left)
   pub top : w.frame.top ≡ f.top -ℤ pos w.top

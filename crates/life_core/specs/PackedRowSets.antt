@@ -18,8 +18,8 @@ abbrev pub cells_of_rows : List ℕ → List ℕ → List ℕ → Cells
 cells_of_rows above here below =
     set.from_list (row_cells (negsuc 0) above ++ (row_cells (pos 0) here ++ row_cells (pos 1) below))
 
--- Under a rule without births from nothing, a place of the middle row is live next exactly if its cell is in the set
--- one generation after that of the three rows.
+-- Under a rule without births from nothing, a place of the middle row is live next exactly when its cell is in the next
+-- generation of the three rows.
 abbrev pub PlacesAreNext : Type 0
 PlacesAreNext =
     (r : RuleSets) (above here below : List ℕ) (p : ℕ) → set.contains r.birth 0 ≡ false

@@ -1,4 +1,4 @@
--- Planes of rows of packed words.
+-- The state of a plane of packed rows.
 use Rattle.std.specs.Prelude.{◌≡◌, ℕ, ◌+◌, ◌*◌, ◌/◌, ◌<◌, ◌≤◌, Bool, IsTrue, List, length}
 use Rattle.std.specs.FinSet as set
 use Rattle.life_core.specs.declared.cell.TheConstants.{PLANE}

@@ -10,8 +10,8 @@ pub record IsCellList (k : ℕ) (cs : List Cell) : Type 0 where
   pub sorted : IsStrictlySortedBy cell_cmp cs
   pub inside : All (IsCellWithin k) cs
 
--- the translation that takes the cells of one list, in their order, to those of the other: None if the list is empty or
--- there is no such translation
+-- the translation that takes each cell of cs to the cell at the same index of ds: None if cs is empty or there is no
+-- such translation
 abbrev pub ShiftsListTo : List Cell → List Cell → Option (ℤ × ℤ) → Type 0
 ShiftsListTo cs ds None = (dx dy : ℤ) → map (moved_cell dx dy) cs ≡ ds → cs ≡ []
 ShiftsListTo cs ds (Some move) = (cs ≢ []) × (map (moved_cell move.0 move.1) cs ≡ ds)

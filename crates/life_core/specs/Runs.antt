@@ -51,11 +51,11 @@ IsRunBefore r s = (r.row <ℤ s.row) ⊎ ((r.row ≡ s.row) × ((r.first +ℤ po
 abbrev pub AreRunsInOrder : List Run → Type 0
 AreRunsInOrder = AllPairs IsRunBefore
 
--- a run ends before a column of a row, or in a row before it
+-- all of r comes before the place, by row and then by column
 abbrev pub IsBehind : Run → ℤ → ℤ → Type 0
 IsBehind r row column = (r.row <ℤ row) ⊎ ((r.row ≡ row) × ((r.first +ℤ pos r.len) ≤ℤ column))
 
--- a run ends after the column of the row, or in a row after it
+-- the last cell of r is at the place or comes after it, by row and then by column
 abbrev pub IsAhead : Run → ℤ → ℤ → Type 0
 IsAhead r row column = (row <ℤ r.row) ⊎ ((r.row ≡ row) × (column <ℤ (r.first +ℤ pos r.len)))
 
@@ -63,7 +63,7 @@ IsAhead r row column = (row <ℤ r.row) ⊎ ((r.row ≡ row) × (column <ℤ (r.
 abbrev pub in_run : Run → Cell → Bool
 in_run r c = int_eq r.row c.row && (int_le r.first c.column && int_lt c.column (r.first +ℤ pos r.len))
 
--- it is
+-- c is a cell of r
 pub record IsInRun (r : Run) (c : Cell) : Type 0 where
   pub row : c.row ≡ r.row
   pub low : r.first ≤ℤ c.column
@@ -83,12 +83,12 @@ abbrev pub NoneJoins : Run → List Run → Type 0
 NoneJoins r [] = ⊤
 NoneJoins r (s ∷ rs) = Joins r s → ⊥
 
--- a run has a cell, and begins in a part of the plane where no sum wraps
+-- a nonempty run that does not begin too far left, so that no sum of coordinates wraps
 pub record IsRun (r : Run) : Type 0 where
   pub some : 1 ≤ r.len
   pub from : neg_ℤ (pos 1100000000) ≤ℤ r.first
 
--- Runs none of which begins where the one before it ends: a list of cells has exactly one such list of runs.
+-- No run begins where the one before it ends, so a list of cells has exactly one such list of runs.
 abbrev pub AreLongest : List Run → Type 0
 AreLongest [] = ⊤
 AreLongest (r ∷ rs) = IsRun r × NoneJoins r rs × AreLongest rs

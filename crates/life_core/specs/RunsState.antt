@@ -8,7 +8,7 @@ use Rattle.life_core.specs.declared.runs.Run.{Run}
 use Rattle.life_core.specs.Cell.{coded_cell}
 use Rattle.life_core.specs.Runs.{runs_cells, Joins, AreLongest}
 
--- whether a run ends before a column of a row, or in a row before it
+-- whether all of r comes before the place, by row and then by column
 abbrev pub is_before_cell : Run → ℤ → ℤ → Bool
 is_before_cell r row column = int_lt r.row row || (int_eq r.row row && int_le (r.first +ℤ pos r.len) column)
 
@@ -23,12 +23,12 @@ pub record IsNear (r : Run) : Type 0 where
 abbrev pub coded_cell_list : Coded (List Cell)
 coded_cell_list = coded_list coded_cell
 
--- the longest runs of as many cells
+-- longest runs that have n cells in total
 pub record IsRunList (rs : List Run) (n : ℕ) : Type 0 where
   pub longest : AreLongest rs
   pub count : n ≡ length (runs_cells rs)
 
--- the run begins where the last of these ends
+-- the run s begins where the last of the runs ends
 pub record JoinsLast (rs : List Run) (s : Run) : Type 0 where
   pub front : List Run
   pub last : Run

@@ -1,4 +1,4 @@
-//! The values of constants.
+//! Laws about the values of this crate's constants.
 ghost use Rattle.std.specs.Prelude.{◌≡◌, ◌∷◌, []};
 ghost use Rattle.life_core.specs.declared.orientation.TheConstants.Orientation.{ALL};
 ghost use Rattle.life_core.specs.declared.orientation.Orientation.TheVariants.{O0, O1, O2, O3, O4, O5, O6, O7};

@@ -14,7 +14,8 @@ use std::alloc::Allocator;
 /// The most generations that one call computes.
 pub const GENERATION_LIMIT: u32 = 2048;
 
-/// The greatest width and height, in cells, of a box that is stored in rows of packed words.
+/// The greatest width and height, in cells, of a box that is stored in rows of packed words. At one bit a cell, the
+/// largest box takes 32 MiB, and a plane stores two generations.
 pub const PACKED_LIMIT: u64 = 16_384;
 
 /// Generation `n` of the pattern, computed on a plane of the type `P`.
@@ -34,7 +35,7 @@ pub fn generation_by<A: Allocator + Copy, P: Plane<A>>(
     plane.to_pattern(alloc)
 }
 
-/// Generation `n` of the pattern.
+/// Generation `n` of the pattern, computed in packed rows if [`is_packed`] allows it, otherwise by a list of cells.
 pub fn generation<A: Allocator + Copy>(
     alloc: A,
     rule: &Rule,
@@ -54,9 +55,8 @@ pub fn generation<A: Allocator + Copy>(
     }
 }
 
-/// Whether a pattern with this box is stored in rows of packed words for this many generations: its
-/// width and height, each plus `2 * n`, have to be at most [`PACKED_LIMIT`]. An empty pattern, which
-/// has no box, is too.
+/// Whether a pattern with this box is stored in rows of packed words for `n` generations. Its width and height may
+/// grow by `2 * n`, and must then be at most [`PACKED_LIMIT`]. An empty pattern has no box and is always packed.
 pub fn is_packed(bounds: Option<Bounds>, n: u32) -> bool
     requires { n ≤ GENERATION_LIMIT }
     ensures { MatchOption bounds (IsTrue result) (λ b. IsTrue result ↔ ((b.width + 2 * n ≤ PACKED_LIMIT) × (b.height + 2 * n ≤ PACKED_LIMIT))) }
@@ -68,8 +68,8 @@ pub fn is_packed(bounds: Option<Bounds>, n: u32) -> bool
     }
 }
 
-/// What the definition of a generation means: the rule alone decides about each cell of the plane, and
-/// a generation reaches at most one cell further than the one before. A law: calling it does nothing.
+/// Whether a cell of the plane is live next depends only on the rule, the cell and its eight neighbours. A generation
+/// reaches at most one cell further than the one before. A law: calling it does nothing.
 pub fn laws_of_generations()
     ensures by_cells { NextByCells }
     ensures grows { GrowsByOne }

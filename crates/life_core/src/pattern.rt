@@ -17,7 +17,7 @@ use crate::sorted::sort_cells;
 use std::alloc::{AllocError, Allocator, Global};
 use std::marker::Model;
 
-/// The box of a set of cells.
+/// The smallest box around a set of cells.
 #[derive(Clone, Copy, Debug, PartialEq, Eq)]
 pub struct Bounds {
     pub left: i64,
@@ -26,7 +26,7 @@ pub struct Bounds {
     pub height: u64,
 }
 
-/// A finite set of cells.
+/// A finite set of cells, stored as its longest runs in order.
 #[derive(Debug, Drop)]
 pub struct Pattern<A: Allocator = Global> {
     cells: Runs<A>,
@@ -69,7 +69,7 @@ impl<A: Allocator + Copy> Pattern<A> {
         })
     }
 
-    /// The set of the cells of a list of runs, in any order and with repeats. A list that is in order is not copied.
+    /// The set of the cells of a list of runs, in any order and with repeats. Runs that are in order are reused.
     pub fn from_runs(cells: Runs<A>) -> Result<Pattern<A>, Fault>
         requires { All (IsCellWithin PLANE) cells }
         ensures { IfOk result (λ X. X ≡ set.from_list cells) }
@@ -91,7 +91,7 @@ impl<A: Allocator + Copy> Pattern<A> {
 }
 
 impl<A: Allocator> Pattern<A> {
-    /// The set of the cells of a list that is strictly sorted already.
+    /// The set of the cells of a list that is already strictly sorted; reuses its memory.
     pub(crate) fn from_sorted(cells: Runs<A>) -> Pattern<A>
         requires { IsCellList PLANE cells }
         ensures { result ≡ set.from_list cells }
@@ -104,7 +104,7 @@ impl<A: Allocator> Pattern<A> {
         self.cells.allocator()
     }
 
-    /// Whether the cell is live.
+    /// Whether the cell is live, by binary search.
     pub fn contains(&self, cell: Cell) -> bool
         ensures { result ≡ set.contains self.now cell }
     {
@@ -208,7 +208,8 @@ impl<A: Allocator> Pattern<A> {
     }
 }
 
-/// What the order of a set's cells and its normal form mean. A law: calling it does nothing.
+/// A set's cells in order ascend and are its members. The least column and row of a nonempty normal set are 0. A law:
+/// calling it does nothing.
 pub fn laws_of_patterns()
     ensures ascends { InOrderAscends }
     ensures members { InOrderHasMembers }
@@ -247,7 +248,7 @@ fn turned_cells<A: Allocator>(
     cells.iter().map(|c| orientation.turned(*c)).collect(alloc)
 }
 
-/// The translation that takes the cells of longest runs, in their order, to those of the others.
+/// The translation that takes each of the longest runs to the run at the same index in `others`.
 fn shift_between(runs: &[Run], others: &[Run]) -> Option<(i64, i64)>
     requires runs { AreLongest runs.now }
     requires others { AreLongest others.now }
@@ -263,7 +264,7 @@ fn shift_between(runs: &[Run], others: &[Run]) -> Option<(i64, i64)>
     }
 }
 
-/// The columns and rows from the first cell of one run to that of another.
+/// The columns and rows from one run's first cell to the other's.
 fn run_shift(from: Run, to: Run) -> (i64, i64)
     ensures columns { result.0 ≡ to.first -ℤ from.first }
     ensures rows { result.1 ≡ to.row -ℤ from.row }
@@ -274,7 +275,7 @@ fn run_shift(from: Run, to: Run) -> (i64, i64)
     )
 }
 
-/// Whether the shift takes the runs of one list, in their order, to those of the other.
+/// Whether the shift takes each run to the run at the same index in `others`.
 fn are_shifted_to(runs: &[Run], others: &[Run], shift: (i64, i64)) -> bool
     ensures { IsTrue result ↔ (map (moved_run shift.0 shift.1) runs.now ≡ others.now) }
 {

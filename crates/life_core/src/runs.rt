@@ -35,7 +35,7 @@ impl Run {
         }
     }
 
-    /// The run of this many cells with the same beginning.
+    /// The run with the same first cell and `len` cells.
     pub(crate) fn with_len(self, len: u32) -> Run
         ensures { result ≡ record { row = self.row; first = self.first; len = len } }
     {
@@ -69,7 +69,7 @@ impl Run {
         }
     }
 
-    /// The last cell, of a run that has one.
+    /// The rightmost cell, if the run is not empty.
     pub(crate) fn last_cell(&self) -> Cell
         ensures { result ≡ last_cell self.now }
     {
@@ -92,7 +92,7 @@ impl Run {
         }
     }
 
-    /// Whether the cell is one of the run's.
+    /// Whether the run contains the cell.
     fn has(&self, cell: Cell) -> bool
         ensures { result ≡ in_run self.now cell }
     {
@@ -101,7 +101,7 @@ impl Run {
             && cell.column < self.end()
     }
 
-    /// Whether the first and the last cell lie between `-k` and `k`, and so all.
+    /// Whether both coordinates of every cell lie between `-k` and `k`. It needs to check only the first and the last.
     pub(crate) fn is_within(&self, k: u32) -> bool
         ensures { IsTrue result ↔ IsRunWithin k self.now }
     {
@@ -219,7 +219,7 @@ impl<A: Allocator> Runs<A> {
         self.runs.as_slice()
     }
 
-    /// Appends a run.
+    /// Appends the cells of a run. Besides out of memory, it fails if the number of cells overflows.
     pub fn push_run(&mut self, run: Run) -> Result<(), AllocError>
         requires run { IsRun run }
         requires end { (run.first +ℤ pos run.len) ≤ℤ pos 1_100_000_001 }
@@ -244,7 +244,7 @@ impl<A: Allocator> Runs<A> {
     }
 }
 
-/// Appends a run to longest runs: if it begins where the last one ends, that one becomes longer.
+/// Appends a run, or lengthens the last run if this one begins where it ends.
 fn add_run<A: Allocator>(runs: &mut Vec<Run, A>, run: Run) -> Result<(), AllocError>
     requires run { IsRun run }
     requires end { (run.first +ℤ pos run.len) ≤ℤ pos 1_100_000_001 }
@@ -271,7 +271,7 @@ fn is_joined(runs: &[Run], run: Run) -> bool
     }
 }
 
-/// Makes the last run longer.
+/// Adds `more` cells to the last run.
 fn lengthen_last(runs: &mut [Run], more: u32)
     requires some { LastFits runs.old more }
     ensures { IsLonger runs.old runs.new more }
@@ -326,7 +326,7 @@ pub(crate) fn are_in_order(runs: &[Run]) -> bool
     true
 }
 
-/// The index of the first run that ends neither in an earlier row than the cell's, nor in its row before its column.
+/// The index of the first run that contains the cell or comes after it, by binary search.
 pub fn first_from(runs: &[Run], at: Cell) -> usize
     requires { AreRunsInOrder runs.now }
     ensures bound { result ≤ length runs.now }
@@ -336,7 +336,7 @@ pub fn first_from(runs: &[Run], at: Cell) -> usize
     runs.partition_point(|run| ends_before_cell(*run, at))
 }
 
-/// Whether the run ends in an earlier row than the cell's, or in its row before its column.
+/// Whether the run ends before the cell, by row and then by column.
 fn ends_before_cell(run: Run, at: Cell) -> bool
     ensures { result ≡ is_before_cell run at.row at.column }
 {
@@ -344,7 +344,7 @@ fn ends_before_cell(run: Run, at: Cell) -> bool
     own < at.row || own == at.row && run.end() <= at.column
 }
 
-/// Whether the cell is in runs that are in order.
+/// Whether one of the runs, which are in order, contains the cell.
 pub(crate) fn find_cell(runs: &[Run], cell: Cell) -> bool
     requires { AreRunsInOrder runs.now }
     ensures { result ≡ set.contains (cells_in runs.now) cell }

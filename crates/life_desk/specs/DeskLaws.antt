@@ -1,5 +1,5 @@
--- What makes the definitions of the archive believable: one reply to each request, numbers that stay, repeats that act
--- once, flags that say what is steady.
+-- Laws that check the definitions of the archive: each request has one reply, numbers stay, repeated requests act once,
+-- and flags tell steady generations.
 use Rattle.std.specs.Prelude.{◌≡◌, ◌≢◌, ◌↔◌, true, ℕ, List, Ok, Some, IsTrue, bytes_eq}
 use Rattle.std.specs.List.{AllByRecursion}
 use Rattle.life_core.specs.Generations.{generation_of}
@@ -24,21 +24,21 @@ use Rattle.life_desk.specs.Run.{RequestRun, IsLater}
 abbrev pub FilesAreReadAgain : Type 0
 FilesAreReadAgain = (bytes : List ℕ) (r : Contents) → files.file bytes ≡ Ok r → IsReadAgain r
 
--- .. and the texts of such records are equal exactly if the records are.
+-- .. and such records have equal texts if and only if they are equal.
 abbrev pub EqualTexts : Type 0
 EqualTexts =
     (a b : Contents) → IsReadAgain a → IsReadAgain b → (bytes_eq (writer.text a) (writer.text b) ≡ true) ↔ (a ≡ b)
 
--- Each request has one reply: something is its reply, and nothing else is.
+-- Each request has exactly one reply.
 abbrev pub OneReply : Type 0
 OneReply = (A : Archive) (q : Request) → (r : Reply) × IsReply A q r × ((other : Reply) → IsReply A q other → other ≡ r)
 
--- In a run, deposits and censuses are never lost or changed: what has a number keeps it.
+-- In a run, deposits and censuses are never lost or changed, and they keep their numbers.
 abbrev pub NothingIsLost : Type 0
 NothingIsLost = (A B : Archive) (qs : List Request) (rs : List Reply) → RequestRun A qs rs B → IsLater A B
 
--- The number that answers a deposit names it, then and in every later archive: the member, the token, and the record of
--- the file.
+-- The number in the reply to a deposit names it in this and in every later archive, with its member, its token, and the
+-- record of its file.
 abbrev pub DepositsStay : Type 0
 DepositsStay =
     (A B : Archive) (member token file : List ℕ) (n : ℕ) → EachIsReadAgain A.deposits
@@ -47,7 +47,7 @@ DepositsStay =
     → (content : Contents) × (files.file file ≡ Ok content)
     × (numbered B.deposits n ≡ Some (record { member = member; token = token; content = content }))
 
--- The same of a census.
+-- The number in the reply to a census names it in this and in every later archive.
 abbrev pub CensusesStay : Type 0
 CensusesStay =
     (A B : Archive) (member token : List ℕ) (deposit generation limit n : ℕ)
@@ -56,8 +56,8 @@ CensusesStay =
     → numbered B.censuses n ≡ Some
     (record { member = member; token = token; deposit = deposit; generation = generation; limit = limit })
 
--- If a deposit was answered with a number, and is sent again, then or later, with a file of the same content, the
--- answer is that number, and nothing changes.
+-- If a deposit got a number, sending it again at any time with a file of the same content gets that number again and
+-- changes nothing.
 abbrev pub DepositsActOnce : Type 0
 DepositsActOnce =
     (A B : Archive) (member token file again : List ℕ) (n : ℕ)
@@ -66,7 +66,7 @@ DepositsActOnce =
     → IsReply B (requests.Deposit member token again) (replies.Deposited n)
     × (after B (requests.Deposit member token again) ≡ B)
 
--- The same of a census.
+-- If a census got a number, sending it again at any time gets that number again and changes nothing.
 abbrev pub CensusesActOnce : Type 0
 CensusesActOnce =
     (A B : Archive) (member token : List ℕ) (deposit generation limit n : ℕ)
@@ -75,7 +75,7 @@ CensusesActOnce =
     → IsReply B (requests.Census member token deposit generation limit) (replies.Counted n)
     × (after B (requests.Census member token deposit generation limit) ≡ B)
 
--- The flag that a census is shown with is true exactly if its generation of its deposit is steady under its limit.
+-- A census is shown with a true flag if and only if the generation that it counted is steady under its limit.
 abbrev pub FlagTellsSteady : Type 0
 FlagTellsSteady =
     (A : Archive) (id : ℕ) (shown : Shown) (d : Deposit) → IsReply A (requests.ShowCensus id) (replies.Shown shown)
@@ -83,11 +83,11 @@ FlagTellsSteady =
     → IsTrue shown.steady ↔ IsSteady d.content.rule
     (generation_of d.content.rule d.content.cells shown.generation) shown.limit
 
--- nothing was answered unavailable
+-- no reply is `unavailable`
 abbrev pub AllAnswered : List Reply → Type 0
 AllAnswered rs = AllByRecursion (λ r. r ≢ replies.Refused refusals.Unavailable) rs
 
--- Two runs of the same requests from the same archive, in which nothing was answered unavailable, are equal.
+-- Two runs of the same requests from the same archive are equal if no reply is `unavailable`.
 abbrev pub SameReplies : Type 0
 SameReplies =
     (A B C : Archive) (qs : List Request) (rs ss : List Reply) → RequestRun A qs rs B → RequestRun A qs ss C

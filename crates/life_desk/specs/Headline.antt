@@ -1,4 +1,4 @@
--- The headline of the archive: what the replies of a run say about sets of live cells.
+-- The headline of the archive: the replies of a run, in terms of sets of live cells.
 use Rattle.std.specs.Prelude.{◌≡◌, ◌↔◌, ◌+◌, ◌≤◌, ◌⊎◌, ℕ, List, Option, Some, Ok, IsTrue, length, sum_by, count_by}
 use Rattle.std.specs.Prelude.{is_none}
 use Rattle.std.specs.List.{Contains, filter_map}
@@ -32,8 +32,8 @@ use Rattle.life_desk.specs.Represents.{IsRepresentable, Represents}
 use Rattle.life_desk.specs.Run.{RequestRun, IsAnswered, IsLater}
 
 -- The tally counts every cluster of X once, under its code or as unresolved. The clusters are `clusters_of X`. By the
--- laws `OneClusterEach` and `OneListOfClusters` of life_census, each live cell is in exactly one of them, and there is
--- no other such list. A row says how many have its code; the rows and the unresolved clusters add up to the total.
+-- laws `OneClusterEach` and `OneListOfClusters` of life_census, this is the only list with each live cell in exactly
+-- one cluster. A row counts the clusters with its code. The rows and the unresolved clusters add up to the total.
 pub record CountsEachOnce (rule : RuleSets) (X : Cells) (limit : ℕ) (tally : TallyCounts) : Type 0 where
   pub rows : (code : List ℕ) (n : ℕ) → Contains tally.rows (code, n)
       ↔ ((n ≡ how_often code (filter_map (λ P. code_of rule P limit) (clusters_of X))) × (1 ≤ n))
@@ -41,8 +41,8 @@ pub record CountsEachOnce (rule : RuleSets) (X : Cells) (limit : ℕ) (tally : T
   pub total : tally.total ≡ length (clusters_of X)
   pub adds_up : sum_by (λ (row : List ℕ × ℕ). row.1) tally.rows + tally.unresolved ≡ tally.total
 
--- The census of the number is shown: its deposit, generation and limit, its tally, and whether what was counted is
--- steady, that is, whether its clusters are still lifes and oscillators that never meet.
+-- The reply shows the census with the number: its deposit, generation, limit and tally, and whether the counted
+-- generation is steady. Steady means that its clusters are still lifes and oscillators that never meet.
 pub record ShowsCensus (B : Archive) (id : ℕ) (shown : Shown) : Type 0 where
   pub census : Census
   pub deposit : Deposit
@@ -55,29 +55,29 @@ pub record ShowsCensus (B : Archive) (id : ℕ) (shown : Shown) : Type 0 where
   pub steady : IsTrue shown.steady ↔ IsSteady deposit.content.rule
       (generation_of deposit.content.rule deposit.content.cells census.generation) census.limit
 
--- What the replies of a run from A to B say. The numbers of deposits and censuses are those in B.
+-- The meaning of the replies of a run from A to B. Numbers refer to the deposits and censuses of B.
 pub record Headline (A : Archive) (qs : List Request) (rs : List Reply) (B : Archive) : Type 0 where
   -- nothing that A has is lost or changed
   pub later : IsLater A B
-  -- the number of a deposit names what was deposited
+  -- the number in the reply to a deposit names that deposit
   pub deposited : (member token file : List ℕ) (n : ℕ)
       → IsAnswered qs rs (requests.Deposit member token file) (replies.Deposited n)
       → (content : Contents) × (files.file file ≡ Ok content)
       × (numbered B.deposits n ≡ Some (record { member = member; token = token; content = content }))
-  -- the file that is shown is the text of what was deposited
+  -- a deposit is shown as the canonical text of its record
   pub shows : (id : ℕ) (bytes : List ℕ) → IsAnswered qs rs (requests.Show id) (replies.File bytes)
       → (d : Deposit) × (numbered B.deposits id ≡ Some d) × (bytes ≡ writer.text d.content)
   -- generation n is the rule applied n times
   pub generations : (id n : ℕ) (bytes : List ℕ) → IsAnswered qs rs (requests.At id n) (replies.File bytes)
       → (d : Deposit) × (numbered B.deposits id ≡ Some d)
       × (bytes ≡ writer.text (plain d.content.rule (generation_of d.content.rule d.content.cells n)))
-  -- the kind and the code are those of the deposit's pattern
+  -- the kind and the code belong to the deposit's pattern
   pub kinds : (id limit : ℕ) (k : Kind) (code : Option (List ℕ))
       → IsAnswered qs rs (requests.KindOf id limit) (replies.Kinded k code)
       → (d : Deposit) × (numbered B.deposits id ≡ Some d) × (k ≡ kind_of d.content.rule d.content.cells limit)
       × (code ≡ code_of d.content.rule d.content.cells limit)
-  -- two coded patterns of one rule share a code exactly if a translation, rotation or reflection takes one to a phase
-  -- of the other
+  -- two coded patterns of one rule share a code if and only if a translation, rotation or reflection takes one to a
+  -- phase of the other
   pub codes : (i j limit other : ℕ) (k l : Kind) (s t : List ℕ) (d e : Deposit)
       → IsAnswered qs rs (requests.KindOf i limit) (replies.Kinded k (Some s))
       → IsAnswered qs rs (requests.KindOf j other) (replies.Kinded l (Some t))
@@ -86,7 +86,7 @@ pub record Headline (A : Archive) (qs : List Request) (rs : List Reply) (B : Arc
   -- a census counts every cluster once, under its code or as unresolved
   pub censuses : (id : ℕ) (shown : Shown) → IsAnswered qs rs (requests.ShowCensus id) (replies.Shown shown)
       → ShowsCensus B id shown
-  -- a total is how many clusters have the code in all censuses at that moment, of deposits with the rule
+  -- a total is the number of clusters with the code in all censuses of deposits with the rule, at that moment
   pub totals : (text code : List ℕ) (limit n : ℕ) → IsAnswered qs rs (requests.Total text code limit) (replies.Total n)
       → (rule : RuleSets) × (M : Archive) × (read_rule text ≡ Ok rule) × IsLater A M × IsLater M B
       × (n ≡ clusters_with M rule code)
@@ -105,12 +105,12 @@ IsTakenByRun A new qs rs = (B : Archive) × RequestRun A qs rs B × Represents n
 abbrev pub IsTheArchive : {S : Type 0} → ArchiveView S → ArchiveView S → List Request → List Reply → Type 0
 IsTheArchive old new qs rs = (A : Archive) → IsTrue new.tables.is_healthy → Represents old A → IsTakenByRun A new qs rs
 
--- A run began at A, and the headline holds for these replies.
+-- The replies come from a run that began at A, and the headline holds for them. The final archive is left open.
 abbrev pub AreOfARun : Archive → List Request → List Reply → Type 0
 AreOfARun A qs rs = (B : Archive) × RequestRun A qs rs B × Headline A qs rs B
 
--- If the database is healthy at the start, it is healthy at the end, and a run began at A; or the disk failed during
--- the call. In that case too the replies are those of a run, unless the disk did not return what was written; the
+-- A database that is healthy at the start is healthy at the end, after a run from A, or the disk failed during the
+-- call. Even then the replies come from a run, unless the disk returned something other than what was written. The
 -- clause on crashes says which archive is left.
 abbrev pub IsTheArchiveOrFaults : {S : Type 0} → Ghosts S → ArchiveView S → ArchiveView S → List Request
     → List Reply → Type 0
@@ -118,6 +118,6 @@ IsTheArchiveOrFaults g old new qs rs = (A : Archive) → IsTrue old.tables.is_he
     → (IsTrue new.tables.is_healthy × IsTakenByRun A new qs rs)
     ⊎ (HasFailed old.tables new.tables × (IsHonest g new → AreOfARun A qs rs))
 
--- If the database is in memory, this holds without a premise.
+-- A database in memory is always healthy, so this needs no premise about its health.
 abbrev pub IsTheArchiveInMemory : {S : Type 0} → ArchiveView S → ArchiveView S → List Request → List Reply → Type 0
 IsTheArchiveInMemory old new qs rs = (A : Archive) → Represents old A → IsTakenByRun A new qs rs

@@ -1,6 +1,6 @@
--- When the tables of a store represent an archive: their rows represent its deposits and its censuses, each census with
--- the tally of its generation of its deposit, and with whether that generation is steady. The archive of the model
--- itself has neither tallies nor flags.
+-- The tables of a store represent an archive if their rows represent its deposits and its censuses. Each census is
+-- stored with the tally of the generation that it counts, and with whether that generation is steady. The model's
+-- archive has neither tallies nor flags, since both can be computed.
 use Rattle.std.specs.Prelude.{◌≡◌, ℕ, List, [], Ok, map, IsSome}
 use Rattle.std.specs.List.{AllByRecursion}
 use Rattle.life_rle.specs.File.{kept}
@@ -22,7 +22,7 @@ tallied ds c = record { census = c; tally = tally_at ds c; steady = steady_at ds
 abbrev pub kept_of : Archive → Kept
 kept_of A = record { deposits = A.deposits; censuses = map (tallied A.deposits) A.censuses }
 
--- each census is of a deposit
+-- the deposit of each census exists
 abbrev pub EachHasDeposit : List Deposit → List Census → Type 0
 EachHasDeposit ds cs = AllByRecursion (λ c. IsSome (numbered ds c.deposit)) cs
 
@@ -49,7 +49,7 @@ pub record IsRepresented (t : Tables) (most : ℕ) (A : Archive) : Type 0 where
 unfoldable pub Represents : {S : Type 0} → ArchiveView S → Archive → Type 0
 Represents t A = IsRepresented t.tables t.capacity A
 
--- The trees represent the archive as opening finds it; opening sets the capacity.
+-- An opening finds this archive in the trees, apart from the capacity, which the opening sets.
 abbrev pub RecoveredRepresents : Recoverable → Archive → Type 0
 RecoveredRepresents found A = RecoveredHolds found (kept_of A)
 
@@ -59,8 +59,8 @@ NewIsEmpty =
     (t : Tables) (capacity : ℕ) → Holds t nothing_kept
     → IsRepresented t capacity (record { deposits = []; censuses = []; capacity = capacity })
 
--- An archive of schema version 1 that was migrated as it was opened is the archive that it was: each flag is what the
--- archive computes.
+-- Migrating an archive from schema version 1 leaves the same archive, since each added flag is the one that the archive
+-- computes.
 abbrev pub MigratedIsTheSame : Type 0
 MigratedIsTheSame =
     (t : Tables) (capacity : ℕ) (A : Archive) → capacity ≡ A.capacity → EachHasDeposit A.deposits A.censuses

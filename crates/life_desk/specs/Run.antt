@@ -1,5 +1,5 @@
--- Runs: lists of requests with their replies, and the archive after them. A run is the life of an archive: `answer`
--- makes one step of it, `answer_all` a list of steps.
+-- Runs: lists of requests with their replies, and the archive after them. `answer` makes one step of a run, and
+-- `answer_all` makes several.
 use Rattle.std.specs.Prelude.{◌≡◌, ◌∷◌, [], ◌++◌, ◌⊎◌, false, List, IsOk, IsTrue, ⊤}
 use Rattle.std.specs.List.{AllByRecursion}
 use Rattle.sqlite_trees.specs.declared.store.Store.{Ghosts}
@@ -16,12 +16,13 @@ use Rattle.life_desk.specs.Validation.{validated}
 use Rattle.life_desk.specs.Replies.{IsReply, after, acknowledges}
 use Rattle.life_desk.specs.Represents.{Represents, RecoveredRepresents}
 
--- one request: its reply and its change; or, if its own fields are valid, it is unavailable and nothing changes
+-- One request gets its reply and makes its change. If its own fields are valid, it may instead get `unavailable` and
+-- change nothing.
 pub data RequestStep (A : Archive) (q : Request) : Reply → Archive → Type 0 where
   answers : (r : Reply) → IsReply A q r → RequestStep A q r (after A q)
   unavailable : IsOk (validated q) → RequestStep A q (replies.Refused refusals.Unavailable) A
 
--- Every archive may give this reply, and stays unchanged: the reply says nothing about what is stored.
+-- Every archive may give this reply and stay unchanged, so the reply says nothing about the stored contents.
 abbrev pub IsStateless : Request → Reply → Type 0
 IsStateless q r = (A : Archive) → RequestStep A q r A
 
@@ -38,7 +39,7 @@ IsAnswered (q ∷ qs) (r ∷ rs) asked given = ((q ≡ asked) × (r ≡ given)) 
 IsAnswered [] rs asked given = ⊥
 IsAnswered (q ∷ qs) [] asked given = ⊥
 
--- B has the deposits and the censuses of A at the same places, maybe more after them, and the capacity of A
+-- B has the deposits and the censuses of A under the same numbers, possibly more after them, and the capacity of A
 pub record IsLater (A B : Archive) : Type 0 where
   pub new_deposits : List Deposit
   pub deposits : B.deposits ≡ A.deposits ++ new_deposits
@@ -50,8 +51,8 @@ pub record IsLater (A B : Archive) : Type 0 where
 abbrev pub AcknowledgeNothing : List Reply → Type 0
 AcknowledgeNothing rs = AllByRecursion (λ r. acknowledges r ≡ false) rs
 
--- The trees represent the archive after the first requests of a run from A, or after one request more; and only the
--- replies to the first requests say that something is stored.
+-- The trees represent the archive after a prefix of the requests of a run from A, or after one request more. Only
+-- replies to that prefix say that something is stored.
 pub record IsCrashOf (A : Archive) (qs : List Request) (rs : List Reply) (found : Recoverable) : Type 0 where
   pub front : List Request
   pub back : List Request
@@ -65,18 +66,19 @@ pub record IsCrashOf (A : Archive) (qs : List Request) (rs : List Reply) (found 
       ⊎ ((next : Request) × (more : List Request) × (back ≡ next ∷ more) × RecoveredRepresents found (after mid next))
   pub unpromised : AcknowledgeNothing rest
 
--- What a crash may leave of requests: what it might have left before them, if no reply says that something is stored;
--- or the database was healthy, and the trees are what a crash leaves of a run from any archive that its tables
--- represented.
+-- A crash after these requests leaves one of two things. If no reply says that something is stored, it may leave what
+-- it might have left before them. If the database was healthy, it may leave the result of a crash during a run, from
+-- any archive that the tables represented.
 abbrev pub MayBeRecoveredOf : {S : Type 0} → Ghosts S → ArchiveView S → List Request → List Reply → Recoverable → Type 0
 MayBeRecoveredOf g old qs rs found =
     (MayBeRecovered g old found × AcknowledgeNothing rs)
     ⊎ (IsTrue old.tables.is_healthy × ((A : Archive) → Represents old A → IsCrashOf A qs rs found))
 
--- The requests were answered by the store. If the database is healthy at the end, it was healthy at the start, and from
--- each archive that the tables represented, a run leads to one that they represent now. If it was healthy at the start
--- and its disk has returned what was written, the replies are those of a run even if the disk failed on the way; if it
--- was not healthy, no reply says anything about what is stored. The last clause says what a crash leaves.
+-- The store answered the requests. If the database is healthy at the end, it was healthy at the start, and a run leads
+-- from each archive that the tables represented to one that they represent now. For a disk that returned everything as
+-- it was written, two more facts hold. If the database was healthy at the start, the replies come from a run even if
+-- the disk failed on the way. If it was not, the replies say nothing about the stored contents. The last clause is
+-- about crashes.
 pub record Answered {S : Type 0} (g : Ghosts S) (old new : ArchiveView S) (qs : List Request)
     (rs : List Reply) : Type 0 where
   pub transition : IsTransition g (λ db. ⊤) old new
@@ -90,14 +92,14 @@ pub record Answered {S : Type 0} (g : Ghosts S) (old new : ArchiveView S) (qs : 
 -- ---- crashes
 
 module _ {S : Type 0} (g : Ghosts S) where
-  -- If the database was healthy and its disk has returned what was written, a crash during the call leaves the archive
-  -- after a prefix of the requests, or after one request more; and whatever was acknowledged is there.
+  -- If the database was healthy and its disk has returned everything as it was written, a crash during the call leaves
+  -- the archive after a prefix of the requests, or after one request more. It includes every acknowledged one.
   abbrev pub IsCrashSafe : ArchiveView S → ArchiveView S → List Request → List Reply → Type 0
   IsCrashSafe old new qs rs =
       (A : Archive) → IsTrue old.tables.is_healthy → Represents old A → IsHonest g new → (found : Recoverable)
       → MayBeRecovered g new found → IsCrashOf A qs rs found
 
-  -- If the database is healthy, a crash leaves the archive that the tables represent, and nothing else.
+  -- If the database is healthy, a crash leaves exactly the archive that the tables represent.
   abbrev pub IsDurable : ArchiveView S → Type 0
   IsDurable new =
       (B : Archive) → IsTrue new.tables.is_healthy → Represents new B → (found : Recoverable)

@@ -1,5 +1,5 @@
--- A submission under a member and a token. It is refused, or it repeats what is stored under that token, or it is
--- added.
+-- A deposit or a census, submitted under a member and a token. It is refused, repeats the item stored under that token,
+-- or is added.
 use Rattle.std.specs.Prelude.{ℕ, ◌+◌, ◌++◌, Bool, List, [], ◌∷◌, length, Option, None, Some, if◌then◌else◌}
 use Rattle.life_desk.specs.declared.refusal.Refusal.{Refusal}
 use Rattle.life_desk.specs.declared.refusal.Refusal.TheVariants as refusals
@@ -15,20 +15,21 @@ pub data Verdict (X : Type 0) : Type 0 where
   -- it is new, and there is room
   Adds : X → Verdict X
 
--- The verdict on x, given what is stored under its token and the number of that: if it is the same, x repeats it; if it
--- differs, x is refused. A new one is added if there is room.
+-- The verdict on x, given the item that is stored under its token, with that item's number. If it is the same, x
+-- repeats it; if it differs, x is refused. Without a stored item, x is added if there is room.
 abbrev pub by_token : {X : Type 0} → (X → X → Bool) → Bool → X → Option (ℕ × X) → Verdict X
 by_token is_same has_room x (Some stored) =
     if is_same stored.1 x then Repeats stored.0 else Refuses refusals.TokenReused
 by_token is_same has_room x None = if has_room then Adds x else Refuses refusals.Full
 
--- the reply, if these are stored before it; `number` is the reply with a number
+-- The reply, if these items are stored before the request; `number` makes a reply from a number. Example: adding to two
+-- items gives the number 3.
 abbrev pub reply_of : {X : Type 0} → (ℕ → Reply) → List X → Verdict X → Reply
 reply_of number xs (Refuses refusal) = replies.Refused refusal
 reply_of number xs (Repeats id) = number id
 reply_of number xs (Adds x) = number (length xs + 1)
 
--- what is stored after it: one more, the last, if it is added
+-- the stored items after the request: an added one is appended
 abbrev pub stored_after : {X : Type 0} → List X → Verdict X → List X
 stored_after xs (Refuses refusal) = xs
 stored_after xs (Repeats id) = xs

@@ -1,5 +1,5 @@
--- Validation of a request's own fields, before the archive is asked, in the order member, token, limits, rule: the
--- refusal for the first invalid field, or the request itself.
+-- Validation of a request's own fields, in the order member, token, limits, rule, before the archive is queried. The
+-- result is the refusal for the first invalid field, or the request itself.
 use Rattle.std.specs.Prelude.{◌≡◌, ◌≤◌, ◌⊎◌, ◌==◌, ◌&&◌, ◌||◌, ℕ, Bool, List, length, Option, None, Some, Result}
 use Rattle.std.specs.Prelude.{Ok, Err, IsOk, nat_le, if◌then◌else◌}
 use Rattle.std.specs.List.{list_all}
@@ -53,7 +53,7 @@ abbrev pub rule_fault : Result RuleSets RuleFault → Option Refusal
 rule_fault (Ok rule) = None
 rule_fault (Err fault) = Some BadRule
 
--- the first of two
+-- the first of two refusals, if any
 abbrev pub first_fault : Option Refusal → Option Refusal → Option Refusal
 first_fault (Some refusal) later = Some refusal
 first_fault None later = later
@@ -68,7 +68,7 @@ fault_in (requests.Census member token id n limit) =
 fault_in (requests.Total rule code limit) = first_fault (limit_fault limit) (rule_fault (read_rule rule))
 fault_in _ = None
 
--- what the limits of a request without an invalid field are
+-- the bounds on the generation and the limit of a valid request
 abbrev pub IsGood : Request → Type 0
 IsGood (requests.At id n) = n ≤ GENERATION_LIMIT
 IsGood (requests.KindOf id limit) = (1 ≤ limit) × (limit ≤ PERIOD_LIMIT)
@@ -84,7 +84,7 @@ validated_by (Some refusal) q = Err refusal
 abbrev pub validated : Request → Result Request Refusal
 validated q = validated_by (fault_in q) q
 
--- a check of a request's fields
+-- the result of a check that found this refusal, if any
 abbrev pub checked : Option Refusal → Result (Unit {0}) Refusal
 checked None = Ok tt
 checked (Some refusal) = Err refusal
@@ -94,6 +94,6 @@ abbrev pub IsChecked : {J : Type 0} → Result (Unit {0}) Refusal → Result J R
 IsChecked (Ok u) words = IsOk words
 IsChecked (Err refusal) words = words ≡ Err refusal
 
--- the refusals before the archive is asked: for a request's own fields or, if these are valid, unavailable
+-- the possible refusals before the archive is queried: for a request's own fields, or `unavailable` if these are valid
 abbrev pub MayRefuse : {J : Type 0} → Result J Refusal → Refusal → Type 0
 MayRefuse words refusal = (words ≡ Err refusal) ⊎ (IsOk words × (refusal ≡ Unavailable))

@@ -13,7 +13,7 @@ use life_core::{GENERATION_LIMIT, Pattern, Rule};
 use life_store::{Census, Deposit, Unavailable};
 use std::alloc::Global;
 
-/// The tally of a pattern, and whether the pattern is steady.
+/// The tally of a pattern, and whether the pattern is steady. The clusters are found once for both.
 fn count(
     alloc: Global,
     rule: &Rule,
@@ -32,7 +32,8 @@ fn count(
     Ok(tally_and_steady(alloc, rule, cells, limit)?)
 }
 
-/// The tally of the census's generation of its deposit, and whether that generation is steady.
+/// The tally of the generation that a census counts, and whether that generation is steady. The caller passes the
+/// census's deposit.
 pub fn tally_of_generation(
     alloc: Global,
     deposit: &Deposit,

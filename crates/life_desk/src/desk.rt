@@ -39,7 +39,7 @@ use life_store::{Archive, Census, Deposit, Unavailable};
 use sqlite::{Alter, MemStore};
 use std::alloc::Global;
 
-/// The reply if the token is used already: the number of what is stored under it, if that is the same.
+/// The reply if the token is used already: the stored number if the content is the same, otherwise a refusal.
 fn repeated(is_same: bool, number: Reply) -> Reply
     ensures { result ≡ (if is_same then number else replies.Refused refusals.TokenReused) }
 {
@@ -50,7 +50,7 @@ fn repeated(is_same: bool, number: Reply) -> Reply
     }
 }
 
-/// The reply to a deposit whose token is used already, given the file that is stored under it.
+/// The reply to a deposit whose token is used already. Canonical texts are compared, so that spelling plays no part.
 fn kept_again(alloc: Global, id: u64, file: &[u8], deposit: &Deposit) -> Result<Reply, Unavailable>
     ensures { IfOk result (λ r. r ≡ (if bytes_eq file.now (text deposit.now.content) then replies.Deposited id else replies.Refused refusals.TokenReused)) }
 {
@@ -58,7 +58,7 @@ fn kept_again(alloc: Global, id: u64, file: &[u8], deposit: &Deposit) -> Result<
     Ok(repeated(file == text.as_slice(), Reply::Deposited(id)))
 }
 
-/// Answers a deposit whose token is new.
+/// Answers a deposit whose token is new: stores it unless the archive is full.
 fn keep_new<S: Alter>(
     archive: &mut Archive<S>,
     alloc: Global,
@@ -78,7 +78,7 @@ fn keep_new<S: Alter>(
     Ok(Reply::Deposited(add_deposit(archive, alloc, deposit)?))
 }
 
-/// Answers a deposit whose file is read.
+/// Answers a deposit whose file is valid: looks up its token first, so that repeating it works in a full archive.
 fn keep_deposit<S: Alter>(
     archive: &mut Archive<S>,
     alloc: Global,
@@ -98,7 +98,7 @@ fn keep_deposit<S: Alter>(
     }
 }
 
-/// Answers a deposit.
+/// Answers a deposit. Its file is read before the archive is queried.
 fn deposit<S: Alter>(
     archive: &mut Archive<S>,
     alloc: Global,
@@ -128,7 +128,7 @@ fn deposit<S: Alter>(
     }
 }
 
-/// Answers with the file of a deposit.
+/// Answers with the stored file of a deposit, in its canonical text.
 fn show<S: Alter>(archive: &mut Archive<S>, alloc: Global, id: u64) -> Result<Reply, Unavailable>
     ensures { ReadOnly S.Store archive.old archive.new result (λ A r. r ≡ file_reply (numbered A.deposits id)) }
 {
@@ -138,7 +138,7 @@ fn show<S: Alter>(archive: &mut Archive<S>, alloc: Global, id: u64) -> Result<Re
     }
 }
 
-/// Answers with the deposits after a number.
+/// Answers with the first 100 deposits after a number.
 fn list_after<S: Alter>(
     archive: &mut Archive<S>,
     alloc: Global,
@@ -149,7 +149,7 @@ fn list_after<S: Alter>(
     Ok(Reply::Deposits(deposits_after(archive, alloc, id)?))
 }
 
-/// The reply with the file of a generation of a deposit.
+/// The reply with the file of a generation of a deposit. The file has the rule, but no name, author or comments.
 fn file_at(alloc: Global, deposit: &Deposit, n: u32) -> Result<Reply, Unavailable>
     requires small { IsInside 1024 deposit.now.content.cells }
     requires few { n ≤ GENERATION_LIMIT }
@@ -177,7 +177,7 @@ fn show_at<S: Alter>(
     }
 }
 
-/// The code of a pattern of this kind, if it has one.
+/// The code of a pattern, if it has one. The kind is known already, so its period is not searched again.
 fn code_by_kind(
     alloc: Global,
     rule: &Rule,
@@ -249,7 +249,7 @@ fn add_counted<S: Alter>(
     Ok(Reply::Counted(add_census(archive, census, &tally, steady)?))
 }
 
-/// Answers a census whose deposit exists and whose token is new.
+/// Answers a census whose deposit exists and whose token is new: counts it unless the archive is full.
 fn count_new<S: Alter>(
     archive: &mut Archive<S>,
     alloc: Global,
@@ -274,7 +274,7 @@ fn count_new<S: Alter>(
     add_counted(archive, alloc, deposit, census)
 }
 
-/// Answers a census whose token is new. Only now is the deposit read.
+/// Answers a census whose token is new. The deposit is read only here, since a repeated census doesn't need it.
 fn keep_census<S: Alter>(
     archive: &mut Archive<S>,
     alloc: Global,
@@ -297,7 +297,7 @@ fn keep_census<S: Alter>(
     }
 }
 
-/// Refuses a census whose token is used by another census.
+/// Refuses a census whose token is used by another census. A missing deposit is reported first.
 fn refuse_reused<S: Alter>(archive: &mut Archive<S>, census: &Census) -> Result<Reply, Unavailable>
     ensures { ReadOnly S.Store archive.old archive.new result (λ A r. r ≡ reused_reply (numbered A.deposits census.now.deposit)) }
 {
@@ -307,14 +307,15 @@ fn refuse_reused<S: Alter>(archive: &mut Archive<S>, census: &Census) -> Result<
     Ok(Reply::Refused(Refusal::NoSuchDeposit))
 }
 
-/// Whether two censuses count the same.
+/// Whether two censuses with the same member and token count the same.
 fn is_same_census(a: &Census, b: &Census) -> bool
     ensures { result ≡ is_same_census a.now b.now }
 {
     a.deposit == b.deposit && a.generation == b.generation && a.limit == b.limit
 }
 
-/// Answers a census. The token is looked up first: a census that is stored has its deposit, so a repeated one needs no look at it.
+/// Answers a census. The token is looked up first. The deposit of a stored census exists, so repeating one does not
+/// read it.
 fn take_census<S: Alter>(
     archive: &mut Archive<S>,
     alloc: Global,
@@ -383,7 +384,7 @@ fn census_csv<S: Alter>(
     }
 }
 
-/// Answers with the sum over all censuses.
+/// Answers with the total over all censuses. The code has to be valid under the rule and the limit.
 fn total<S: Alter>(
     archive: &mut Archive<S>,
     alloc: Global,
@@ -406,7 +407,7 @@ fn total<S: Alter>(
     Ok(Reply::Total(counts_of(archive, alloc, rule, text)?))
 }
 
-/// Answers with a total under a rule that is read.
+/// Answers with a total, after reading the rule in any spelling.
 fn total_under<S: Alter>(
     archive: &mut Archive<S>,
     alloc: Global,
@@ -427,7 +428,7 @@ fn total_under<S: Alter>(
     }
 }
 
-/// Answers a request whose fields are valid.
+/// Answers a request whose fields are valid, so that its generation and its limit fit into 32 bits.
 fn act<S: Alter>(
     archive: &mut Archive<S>,
     alloc: Global,
@@ -478,19 +479,19 @@ fn act<S: Alter>(
     }
 }
 
-/// Answers one request. The reply and the new archive are the ones that the model gives. If memory or the store
-/// failed, the reply is [`Refusal::Unavailable`], and nothing has changed if the database is healthy after the call.
+/// Answers one request with the reply and the new archive that the model defines. If an allocation or the store failed,
+/// the reply is [`Refusal::Unavailable`], and nothing has changed if the database is healthy after the call.
 /// A refusal that depends only on the request's own fields ([`Refusal::BadMember`], `BadToken`, `OutOfLimit` and
 /// `BadRule`) needs neither an allocation nor the store, so `Unavailable` never replaces it.
 pub fn answer<S: Alter>(archive: &mut Archive<S>, alloc: Global, request: Request) -> Reply
     ensures answered { Answered S.Store archive.old archive.new (request ∷ []) (result ∷ []) }
-    // If the database is not healthy, no reply says anything about what is stored, unless its disk has lied.
+    // If the database is not healthy and its disk has not lied, the reply says nothing about the stored contents.
     ensures healthy { IsHealthyIfClean S.Store archive.new ⊎ IsStateless request result }
     // A reply that shows stored contents changed no archive, and might have been `unavailable` instead.
     ensures may_be_unavailable { is_shown result ≡ true → Answered S.Store archive.old archive.new (request ∷ []) (replies.Refused refusals.Unavailable ∷ []) }
     // A crash during the call leaves the archive as it was before the request or after it.
     ensures crash { IsCrashSafe S.Store archive.old archive.new (request ∷ []) (result ∷ []) }
-    // A refusal for the request's own fields comes whatever the store does.
+    // The store can't affect a refusal for the request's own fields.
     ensures own_refusals { IfErr (validated request) (λ refusal. (result ≡ replies.Refused refusal) × (archive.new ≡ archive.old)) }
 {
     archive.law_of_crashes();
@@ -507,7 +508,7 @@ pub fn answer<S: Alter>(archive: &mut Archive<S>, alloc: Global, request: Reques
     }
 }
 
-/// Answers requests one after the other.
+/// Answers requests in turn. Room for all replies is allocated first, so that no request is answered without a reply.
 fn answer_each<S: Alter>(
     archive: &mut Archive<S>,
     alloc: Global,
@@ -527,20 +528,21 @@ fn answer_each<S: Alter>(
 }
 
 /// Answers requests one after the other, with a reply each. [`Fault::Memory`] means that there was no memory for the
-/// replies; it comes before any request is answered.
+/// replies. In that case no request was answered.
 pub fn answer_all<S: Alter>(
     archive: &mut Archive<S>,
     alloc: Global,
     requests: Vec<Request>,
 ) -> Result<Vec<Reply>, Fault>
-    // The replies and the archive are those of a run ..
+    // The replies and the archive come from a run ..
     ensures ok { IfOk result (λ replies. Answered S.Store archive.old archive.new requests.items replies.items) }
     // .. for which the headline about sets of live cells holds.
     ensures headline { IfOk result (λ replies. IsTheArchive archive.old archive.new requests.items replies.items) }
-    // A database that is healthy before the call is healthy after it, unless its disk failed during the call; in either case the replies are those of a run.
+    // A healthy database stays healthy unless its disk fails during the call. In either case the replies belong to a
+    // run.
     ensures lasting { IfOk result (λ replies. IsTheArchiveOrFaults S.Store archive.old archive.new requests.items replies.items) }
-    // A crash during the call leaves the archive after a prefix of the requests, or after one request more, and only the replies to the prefix
-    // say that something is stored.
+    // A crash during the call leaves the archive after a prefix of the requests, or after one request more. Only
+    // replies to that prefix say that something is stored.
     ensures crash { IfOk result (λ replies. IsCrashSafe S.Store archive.old archive.new requests.items replies.items) }
     ensures err { OnErr result (archive.new ≡ archive.old) }
 {
@@ -549,7 +551,8 @@ pub fn answer_all<S: Alter>(
     answer_each(archive, alloc, requests)
 }
 
-/// Like [`answer_all`], for an archive in memory: no disk can fail there, so the replies and the archive are always those of a run.
+/// Like [`answer_all`], for an archive in memory. There is no disk to fail, so the replies and the archive always come
+/// from a run.
 pub fn answer_all_in_memory(
     archive: &mut Archive<MemStore>,
     alloc: Global,

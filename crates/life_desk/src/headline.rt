@@ -1,4 +1,5 @@
-//! The headline of the archive.
+//! The headline of the archive, which says what replies mean for patterns, and laws about new, migrated and crashed
+//! archives.
 ghost use Rattle.life_desk.specs.Headline.{HeadlineHolds};
 ghost use Rattle.life_desk.specs.Represents.{NewIsEmpty, MigratedIsTheSame};
 ghost use Rattle.life_desk.specs.Run.{IsDurable};
@@ -8,10 +9,11 @@ use life_code::laws_of_codes;
 use life_store::Archive;
 use sqlite::Alter;
 
-/// What the replies of every run say about sets of live cells. Deposits and censuses are never lost or changed. What is shown is what was
-/// deposited; generation n is the rule applied n times; kinds and codes are those of the deposit's pattern. Two coded patterns of one rule
-/// share a code exactly when a translation, rotation or reflection takes one to a phase of the other. A census counts every cluster once, under
-/// its code or as unresolved, and a total adds up these counts. A law: calling it does nothing.
+/// The replies of every run, in terms of sets of live cells. Deposits and censuses are never lost or changed. A shown
+/// deposit has the deposited contents, and generation n is the rule applied n times. Kinds and codes belong to the
+/// deposit's pattern. Two coded patterns of one rule share a code exactly when a translation, rotation or reflection
+/// takes one to a phase of the other. A census counts every cluster once, under its code or as unresolved, and a total
+/// adds up these counts. A law: calling it does nothing.
 pub fn law_of_the_archive()
     ensures { HeadlineHolds }
 {
@@ -25,15 +27,15 @@ pub fn law_of_new_archives()
     ensures { NewIsEmpty }
 {}
 
-/// The tables of an archive of schema version 1, once they are migrated, represent the archive that they represented. A law: calling it does nothing.
+/// Migrating an archive from schema version 1 leaves the same archive. A law: calling it does nothing.
 pub fn law_of_migrated_archives()
     ensures { MigratedIsTheSame }
 {
     laws_of_steady_fields();
 }
 
-/// What was acknowledged lasts: between two calls, a crash leaves the archive that the tables represent, and nothing else. A law: calling it
-/// does nothing.
+/// Acknowledged requests are durable: a crash between two calls leaves exactly the archive that the tables represent. A
+/// law: calling it does nothing.
 pub fn law_of_durability<S: Alter>(archive: &Archive<S>)
     ensures { IsDurable S.Store archive.now }
 {

@@ -1,4 +1,4 @@
-//! Requests to the archive, and their answers.
+//! Requests to the archive, and their replies. HTTP is added by `life_pages`; storage comes from `life_store`.
 #![tactic(auto)]
 
 mod bytes;

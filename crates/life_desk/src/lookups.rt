@@ -1,4 +1,4 @@
-//! The desk's queries to the archive.
+//! The calls of `life_store`, with contracts about the archive that the tables represent instead of the tables.
 ghost use Rattle.std.specs.Prelude.{◌≡◌, ◌&&◌, ◌+◌, ◌++◌, ◌∷◌, [], ℕ, List, Some, is_some, nat_le, nat_lt, length, option_map, IfOk, IfSome, OnOk, OnErr};
 ghost use Rattle.life_rle.specs.Record.{IsInside};
 ghost use Rattle.life_rle.specs.Writer.{text};
@@ -17,7 +17,7 @@ use life_store::{Archive, Census, Deposit, KeptCensus, Listing, Unavailable};
 use sqlite::Alter;
 use std::alloc::Global;
 
-/// The deposit of the number.
+/// The deposit with the number, if any.
 pub(crate) fn deposit_of<S: Alter>(
     archive: &mut Archive<S>,
     alloc: Global,
@@ -29,7 +29,7 @@ pub(crate) fn deposit_of<S: Alter>(
     archive.deposit_of(alloc, id)
 }
 
-/// The pattern file of the deposit of the number.
+/// The stored canonical text of the deposit with the number, if any.
 pub(crate) fn file_of<S: Alter>(
     archive: &mut Archive<S>,
     alloc: Global,
@@ -40,7 +40,7 @@ pub(crate) fn file_of<S: Alter>(
     archive.file_of(alloc, id)
 }
 
-/// The number and the pattern file of what is stored under the member and the token of the deposit.
+/// The number and the canonical text of the deposit that is stored under the same member and token, if any.
 pub(crate) fn find_file<S: Alter>(
     archive: &mut Archive<S>,
     alloc: Global,
@@ -51,7 +51,7 @@ pub(crate) fn find_file<S: Alter>(
     archive.find_file(alloc, deposit.member.as_bytes(), deposit.token.as_bytes())
 }
 
-/// The deposits after a number.
+/// The first 100 deposits with a greater number.
 pub(crate) fn deposits_after<S: Alter>(
     archive: &mut Archive<S>,
     alloc: Global,
@@ -62,7 +62,7 @@ pub(crate) fn deposits_after<S: Alter>(
     archive.deposits_after(alloc, id)
 }
 
-/// What is stored under the member and the token of the census.
+/// The census that is stored under the same member and token, with its number, if any.
 pub(crate) fn find_census<S: Alter>(
     archive: &mut Archive<S>,
     alloc: Global,
@@ -85,7 +85,7 @@ pub(crate) fn counts_of<S: Alter>(
     archive.counts_of(alloc, rule, code)
 }
 
-/// The census of the number, with the numbers of its tally.
+/// The census with the number, and its tally's totals, if any.
 fn census_of<S: Alter>(
     archive: &mut Archive<S>,
     alloc: Global,
@@ -96,7 +96,7 @@ fn census_of<S: Alter>(
     archive.census_of(alloc, id)
 }
 
-/// The rows of the tally of the census of the number, and whether the generation that it counted is steady.
+/// The tally's rows of the census with the number, and whether the generation that it counted is steady.
 fn rows_and_flag_of<S: Alter>(
     archive: &mut Archive<S>,
     alloc: Global,
@@ -115,7 +115,7 @@ pub(crate) struct CensusWithTally {
     pub(crate) steady: bool,
 }
 
-/// The census of the number, as it was counted.
+/// The census with the number, its tally and its flag, as they were stored. This takes three queries.
 pub(crate) fn counted_census<S: Alter>(
     archive: &mut Archive<S>,
     alloc: Global,
@@ -164,7 +164,7 @@ fn is_number(id: u64, length: u64) -> bool
     1 <= id && id <= length
 }
 
-/// Whether there is a deposit of the number. None is read.
+/// Whether a deposit has the number. Only the count is queried: numbers have no gaps.
 pub(crate) fn has_deposit<S: Alter>(archive: &mut Archive<S>, id: u64) -> Result<bool, Unavailable>
     ensures { LooksUp S.Store archive.old archive.new result (λ A there. there ≡ is_some (numbered A.deposits id)) }
 {

@@ -1,4 +1,4 @@
-//! Refusals: the enum, and the table of what each shows.
+//! Refusals: the enum, and a table with each one's number, name and HTTP status.
 ghost use Rattle.std.specs.Prelude.{◌≡◌, ◌≤◌, ◌<◌};
 ghost use Rattle.life_desk.specs.Refusals.{EachIsListed};
 
@@ -27,13 +27,13 @@ pub enum Refusal {
     BadRule,
     /// The text is not a code under the rule and the limit.
     BadCode,
-    /// Nothing is stored under the member and the token, and the archive has as many rows as it takes.
+    /// The request would add a deposit or a census, and the archive already has as many as its capacity.
     Full,
     /// Memory or the store failed.
     Unavailable,
 }
 
-/// All refusals, in the order of their numbers. `BadPattern` stands for every fault of a file.
+/// All refusals, in the order of their numbers. `BadPattern` is listed once, with any one fault of a file.
 pub const REFUSALS: [Refusal; 11] = [
     Refusal::NoSuchDeposit,
     Refusal::NoSuchCensus,
@@ -48,7 +48,7 @@ pub const REFUSALS: [Refusal; 11] = [
     Refusal::Unavailable,
 ];
 
-/// What a refusal shows.
+/// A refusal's row in the table of docs/API.md.
 #[derive(Clone, Copy)]
 struct RefusalRow {
     number: u8,
@@ -72,7 +72,7 @@ macro_rules! row {
 impl Refusal {
     ghost use Rattle.life_desk.specs.Refusals.{row_of, line_of, number_of, name_of, status_of};
 
-    /// Its row.
+    /// The refusal's number, name and status. The public calls below all read this table.
     const fn row(&self) -> RefusalRow
         ensures number { result.number ≡ (row_of self.now).number }
         ensures name { result.name.now ≡ (row_of self.now).name }
@@ -116,8 +116,8 @@ impl Refusal {
         self.row().line
     }
 
-    /// The status of the reply over HTTP (RFC 9110, sections 15.5 and 15.6): what was asked for is not there, the
-    /// request is bad, what is stored forbids it, what was sent is no pattern, or the archive can't answer now.
+    /// The HTTP status (RFC 9110): 404 if the item doesn't exist, 400 for a malformed request, 409 for a conflict with
+    /// the stored contents, 422 for an invalid pattern, rule or code, and 503 if the archive can't answer now.
     pub fn status(&self) -> u16
         ensures value { result ≡ status_of self.now }
         ensures error { (400 ≤ result) × (result < 600) }

@@ -45,11 +45,11 @@ pub enum Request {
         generation: u64,
         limit: u64,
     },
-    /// A census.
+    /// Read a census with its tally.
     ShowCensus {
         id: u64,
     },
-    /// The tally of a census, as CSV.
+    /// Read the tally of a census as CSV.
     CensusCsv {
         id: u64,
     },
@@ -62,7 +62,7 @@ pub enum Request {
     },
 }
 
-/// A census, as it is shown.
+/// A census with its tally and its flag, for a reply.
 #[derive(Drop)]
 pub struct Shown {
     /// Its number.
@@ -75,8 +75,8 @@ pub struct Shown {
     pub limit: u32,
     /// How many clusters have each code, how many have no code, and how many there are in all.
     pub tally: Tally,
-    /// Whether the generation that was counted is steady: each cluster is a still life or an oscillator with a period
-    /// within the limit, and no phase of one comes near a phase of another.
+    /// Whether the counted generation is steady: each cluster is a still life or an oscillator with a period within the
+    /// limit, and the phases of different clusters never come near each other.
     pub steady: bool,
 }
 

@@ -1,4 +1,4 @@
-//! Validation of a request's own fields.
+//! Validation of a request's own fields, before the archive is queried.
 ghost use Rattle.std.specs.Prelude.{◌≡◌, ◌≤◌, ℕ, List, OnOk};
 ghost use Rattle.std.specs.List.{list_all};
 ghost use Rattle.life_core.specs.RuleText.{read_rule};
@@ -10,14 +10,14 @@ use crate::request::Request;
 use life_code::PERIOD_LIMIT;
 use life_core::{GENERATION_LIMIT, Rule};
 
-/// A lower-case letter, a digit or `-`.
+/// Whether a byte is an ASCII lower-case letter, a digit or `-`.
 fn is_member_byte(b: u8) -> bool
     ensures { result ≡ is_member_byte b }
 {
     (97 <= b && b <= 122) || ((48 <= b && b <= 57) || b == 45)
 }
 
-/// One of these, or a capital letter.
+/// Whether a byte is an ASCII letter, a digit or `-`.
 fn is_token_byte(b: u8) -> bool
     ensures { result ≡ is_token_byte b }
 {
@@ -38,7 +38,7 @@ fn are_token_bytes(bytes: &[u8]) -> bool
     bytes.iter().all(|b| is_token_byte(*b))
 }
 
-/// Whether a number lies in these bounds.
+/// Whether a number is in a range that includes both bounds.
 fn is_between(low: usize, high: usize, n: usize) -> bool
     ensures { result ≡ is_between low high n }
 {
@@ -61,7 +61,7 @@ fn is_token(bytes: &[u8]) -> bool
     is_between(1, 64, bytes.len()) && are_token_bytes(bytes)
 }
 
-/// Whether a generation is in its range.
+/// Refuses a generation over `GENERATION_LIMIT`.
 fn check_generation(n: u64) -> Result<(), Refusal>
     ensures value { result ≡ checked (generation_fault n) }
     ensures within { OnOk result (n ≤ GENERATION_LIMIT) }
@@ -73,7 +73,7 @@ fn check_generation(n: u64) -> Result<(), Refusal>
     }
 }
 
-/// Whether a limit on the period is in its range.
+/// Refuses a limit on the period that is not from 1 to `PERIOD_LIMIT`.
 fn check_limit(n: u64) -> Result<(), Refusal>
     ensures value { result ≡ checked (limit_fault n) }
     ensures within { OnOk result ((1 ≤ n) × (n ≤ PERIOD_LIMIT)) }
@@ -85,7 +85,7 @@ fn check_limit(n: u64) -> Result<(), Refusal>
     }
 }
 
-/// The member and the token, validated in this order.
+/// Refuses an invalid member first, then an invalid token.
 fn check_names(member: &[u8], token: &[u8]) -> Result<(), Refusal>
     ensures { result ≡ checked (names_fault member.now token.now) }
 {
@@ -98,7 +98,7 @@ fn check_names(member: &[u8], token: &[u8]) -> Result<(), Refusal>
     Ok(())
 }
 
-/// Whether a text is a rule.
+/// Refuses a text that is not a rule in any accepted spelling.
 fn check_rule(rule: &[u8]) -> Result<(), Refusal>
     ensures { result ≡ checked (rule_fault (read_rule rule.now)) }
 {
@@ -108,7 +108,7 @@ fn check_rule(rule: &[u8]) -> Result<(), Refusal>
     }
 }
 
-/// The fields of a census, in the order member, token, limits.
+/// Checks the fields of a census, in the order member, token, generation, limit.
 fn check_census_fields(member: &[u8], token: &[u8], n: u64, limit: u64) -> Result<(), Refusal>
     ensures value { result ≡ checked (first_fault (names_fault member.now token.now) (first_fault (generation_fault n) (limit_fault limit))) }
     ensures within { OnOk result ((n ≤ GENERATION_LIMIT) × (1 ≤ limit) × (limit ≤ PERIOD_LIMIT)) }
@@ -118,7 +118,7 @@ fn check_census_fields(member: &[u8], token: &[u8], n: u64, limit: u64) -> Resul
     check_limit(limit)
 }
 
-/// The fields of a total, in the order limit, rule.
+/// Checks the fields of a total, in the order limit, rule.
 fn check_total_fields(rule: &[u8], limit: u64) -> Result<(), Refusal>
     ensures value { result ≡ checked (first_fault (limit_fault limit) (rule_fault (read_rule rule.now))) }
     ensures within { OnOk result ((1 ≤ limit) × (limit ≤ PERIOD_LIMIT)) }
@@ -127,22 +127,22 @@ fn check_total_fields(rule: &[u8], limit: u64) -> Result<(), Refusal>
     check_rule(rule)
 }
 
-/// Whether the fields of a deposit are valid, whatever its file is. These are the refusals of [`answer`](crate::answer) that depend
-/// on the fields alone, found before anything is copied.
+/// Checks the member and the token of a deposit, so that a caller can refuse before it copies anything. The refusals
+/// are the same as from [`answer`](crate::answer).
 pub fn check_deposit(member: &[u8], token: &[u8]) -> Result<(), Refusal>
     ensures { (file : List ℕ) → IsChecked result (validated (requests.Deposit member.now token.now file)) }
 {
     check_names(member, token)
 }
 
-/// The same for a census, whatever its deposit is.
+/// Checks the fields of a census except its deposit, with the refusals of [`answer`](crate::answer).
 pub fn check_census(member: &[u8], token: &[u8], n: u64, limit: u64) -> Result<(), Refusal>
     ensures { (deposit : ℕ) → IsChecked result (validated (requests.Census member.now token.now deposit n limit)) }
 {
     check_census_fields(member, token, n, limit)
 }
 
-/// The same for a total, whatever its code is.
+/// Checks the rule and the limit of a total, but not its code, with the refusals of [`answer`](crate::answer).
 pub fn check_total(rule: &[u8], limit: u64) -> Result<(), Refusal>
     ensures { (code : List ℕ) → IsChecked result (validated (requests.Total rule.now code limit)) }
 {

@@ -1,4 +1,4 @@
-//! The program `life-draw`: pictures of the pattern file on standard input.
+//! The program `life-draw`: draws the pattern file on standard input as text or SVG.
 #![tactic(auto)]
 
 use life_pictures::run_program;

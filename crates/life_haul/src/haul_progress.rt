@@ -1,17 +1,18 @@
-//! The progress line of a haul.
+//! The progress line of `life-haul`, on a terminal.
 
 use life_hauls::HaulWatch;
 use life_program::ProgressLine;
 use std::alloc::{AllocError, Global};
 
-/// Shows how far a haul is, how fast, and how long it may take.
+/// Shows how many soups are counted, the speed, and an estimate of the seconds left.
 #[derive(Drop)]
 pub struct Progress<'a> {
     alloc: Global,
     line: ProgressLine<'a>,
 }
 
-/// What the line says after this many seconds, 1 or more. The estimate assumes that the remaining soups take as long each as those done.
+/// The line after `seconds`, which is 1 or more. The estimate assumes that the remaining soups take as long on average
+/// as those counted so far.
 fn text(alloc: Global, done: u64, count: u64, seconds: u64) -> Result<String, AllocError> {
     let speed = done.checked_div(seconds).unwrap_or(0);
     let spent = count.saturating_sub(done).saturating_mul(seconds);
@@ -20,7 +21,7 @@ fn text(alloc: Global, done: u64, count: u64, seconds: u64) -> Result<String, Al
 }
 
 impl<'a> Progress<'a> {
-    /// The progress of a haul that starts now.
+    /// Starts the clock.
     pub fn begin(rt: &'a HostRuntime) -> Progress<'a> {
         Progress {
             alloc: rt.alloc(),
@@ -42,7 +43,7 @@ impl HaulWatch for Progress<'_> {
         }
     }
 
-    /// Removes the line, if there is one.
+    /// Removes the line if the haul stopped early; [`report`](HaulWatch::report) removes it after the last soup.
     fn ended(&mut self) {
         self.line.clear();
     }

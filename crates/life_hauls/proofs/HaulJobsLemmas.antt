@@ -1,4 +1,4 @@
--- What a job answers, from what its steps answer.
+-- The answer of a job, from the answers of its steps.
 use Rattle.std.specs.Prelude.{◌≡◌, ℕ, List, Option, Result, Ok, Err}
 use Rattle.std.proofs.Common.{subst}
 use Rattle.life_core.specs.Rule.{RuleSets}

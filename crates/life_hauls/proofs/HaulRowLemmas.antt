@@ -1,4 +1,4 @@
--- Rows of codes, at a place among them.
+-- Where a code belongs among sorted rows.
 use Rattle.std.specs.Prelude.{◌≡◌, ◌≢◌, ℕ, zero, suc, ◌<◌, Bool, true, false, cond, List, [], ◌∷◌, map, length}
 use Rattle.std.specs.Prelude.{slice_index_or, Option, None, Some, refl}
 use Rattle.std.proofs.Common.{sym, ap, subst, ◌∙◌, inl, inr, set, arith}

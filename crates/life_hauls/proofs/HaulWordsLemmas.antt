@@ -1,4 +1,4 @@
--- `clap`'s answer to arguments is known for the command of `life-haul`.
+-- The command of `life-haul` is one of those for which the kit specifies clap's answer.
 use Rattle.std.proofs.Common.{◌≡◌, true, refl}
 use Rattle.clap.proofs.OnLiterals.{clap_on_literals}
 use Rattle.clap.specs.Words.{is_simple, is_simple_and_free}

@@ -1,4 +1,4 @@
--- What occurrences are: a sum, and the least number of a soup that has one.
+-- Occurrences are a sum, and the least number of a soup with one.
 use Rattle.std.specs.Prelude.{◌≡◌, ◌⊎◌, ℕ, zero, suc, ◌≤◌, min, Bool, true, false, cond, List, [], ◌∷◌, filter, sum_by}
 use Rattle.std.specs.Prelude.{Option, None, Some, refl}
 use Rattle.std.proofs.Common.{sym, ap, subst, ◌∙◌, inl, inr, arith}

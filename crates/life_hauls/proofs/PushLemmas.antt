@@ -1,4 +1,4 @@
--- A haul with one soup more.
+-- A haul after one more soup.
 use Rattle.std.specs.Prelude.{◌≡◌, ℕ, ◌+◌, true, false, cond, List, [], ◌∷◌, ◌++◌, fold, length, count_by, is_none}
 use Rattle.std.specs.Prelude.{Option, None, Some, ◌⊎◌, refl}
 use Rattle.std.proofs.Common.{sym, ap, subst, ◌∙◌, inl, inr, arith}

@@ -1,4 +1,4 @@
--- What is seen over two lists of soups, and what one more cluster adds.
+-- The occurrences over two lists of soups, and after one more cluster.
 use Rattle.std.specs.Prelude.{◌≡◌, ℕ, zero, suc, ◌+◌, min, Bool, true, false, cond, List, [], ◌∷◌, ◌++◌, filter, sum_by}
 use Rattle.std.specs.Prelude.{Option, None, Some, option_map, refl}
 use Rattle.std.proofs.Common.{sym, ap, ◌∙◌, arith}

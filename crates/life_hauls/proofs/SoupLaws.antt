@@ -1,4 +1,4 @@
--- What a soup is, bit by bit, for each symmetry.
+-- The cells of a soup bit by bit, for each symmetry.
 use Rattle.std.specs.Prelude.{◌≡◌, ◌⊎◌, ℕ, zero, suc, ◌+◌, ◌*◌, ◌-◌, ◌/◌, ◌%◌, ◌^◌, ◌<◌, ◌≤◌, pos, negsuc, neg_ℤ, ◌-ℤ◌}
 use Rattle.std.specs.Prelude.{Bool, true, false, cond, ◌||◌, ◌==◌, List, [], ◌∷◌, ◌++◌, map, filter, slice_index}
 use Rattle.std.specs.Prelude.{Option, None, Some, bytes_eq, codes, refl}

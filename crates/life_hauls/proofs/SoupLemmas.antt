@@ -1,4 +1,4 @@
--- The cells of a soup, place by place.
+-- The cells of a soup, one bit after another.
 use Rattle.std.specs.Prelude.{◌≡◌, ℕ, ◌+◌, true, false, cond, List, [], ◌∷◌, ◌++◌, map, filter}
 use Rattle.std.proofs.Common.{sym, ap, ◌∙◌, append-nil, arith}
 use Rattle.std.specs.List.{All, AllByRecursion, range_with_len}

@@ -1,4 +1,4 @@
--- Hauls taken together.
+-- Adding hauls.
 use Rattle.std.specs.Prelude.{◌≡◌, ℕ, zero, suc, ◌+◌, min, false, cond, List, [], ◌∷◌, ◌++◌, map, length, count_by}
 use Rattle.std.specs.Prelude.{is_none, Option, None, Some, refl}
 use Rattle.std.proofs.Common.{sym, ap, ◌∙◌, arith}

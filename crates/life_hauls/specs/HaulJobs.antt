@@ -1,4 +1,4 @@
--- What `life-haul` writes.
+-- The output of the jobs of `life-haul`.
 use Rattle.std.specs.Prelude.{◌≡◌, ◌≤◌, ◌<◌, ℕ, ◌+◌, List, length, nat_le, Bool, true, ◌&&◌, Option, Result, Ok, Err}
 use Rattle.std.specs.List.{list_all}
 use Rattle.life_core.specs.Rule.{RuleSets}
@@ -16,7 +16,7 @@ use Rattle.life_hauls.specs.Hauls.{haul_of}
 use Rattle.life_hauls.specs.Soups.{soup_of}
 use Rattle.life_hauls.specs.HaulTable.{csv_text}
 
--- whether a byte is graphic ASCII
+-- printable ASCII without the space: `!` to `~`
 abbrev pub is_graphic : ℕ → Bool
 is_graphic b = nat_le 33 b && nat_le b 126
 
@@ -24,7 +24,7 @@ is_graphic b = nat_le 33 b && nat_le b 126
 abbrev pub IsRoot : List ℕ → Type 0
 IsRoot root = (1 ≤ length root) × (length root ≤ 64) × (list_all is_graphic root ≡ true)
 
--- valid arguments of a haul, apart from its rule
+-- the arguments of a haul are valid; its rule is checked later
 pub record MayBeAsked (words : HaulWords) : Type 0 where
   pub root : IsRoot words.root.now
   pub first : words.first ≤ FIRST_LIMIT
@@ -38,7 +38,7 @@ haul_text words rule =
     csv_text words.symmetry words.root.now rule words.n words.limit words.first
     (haul_of words.symmetry words.root.now rule words.n words.limit words.first words.count)
 
--- valid arguments of a soup, apart from its rule: a haul may count this soup
+-- the arguments of a soup are valid, so some haul may count this soup; its rule is checked later
 pub record MaySoupBeAsked (words : SoupWords) : Type 0 where
   pub root : IsRoot words.root.now
   pub number : words.number < FIRST_LIMIT + COUNT_LIMIT
@@ -47,8 +47,8 @@ pub record MaySoupBeAsked (words : SoupWords) : Type 0 where
 abbrev pub soup_text : SoupWords → RuleSets → List ℕ
 soup_text words rule = text (plain rule (soup_of words.symmetry words.root.now words.number))
 
--- what a job with valid arguments puts, given the text of a rule: the wanted text under this rule, or a prefix of it
--- before a put that failed
+-- How a job answers: it checks its arguments, then the rule. It writes the wanted text under this rule, or a prefix of
+-- it before a failed write.
 abbrev pub PutsUnderRule : Type 0 → List ℕ → (RuleSets → List ℕ) → Option (List ℕ) → Option (List ℕ)
     → Result (Unit {0}) Stop → Type 0
 PutsUnderRule MayBe rule wanted old new (Ok done) =
@@ -60,10 +60,10 @@ PutsUnderRule MayBe rule wanted old new (Err Unwritable) =
     MayBe × ((sets : RuleSets) × (read_rule rule ≡ Ok sets) × AppendsSome old new (wanted sets))
 PutsUnderRule MayBe rule wanted old new (Err stop) = ⊥
 
--- what is put for the arguments of a haul: its table
+-- a haul writes its table
 abbrev pub PutsHaul : HaulWords → Option (List ℕ) → Option (List ℕ) → Result (Unit {0}) Stop → Type 0
 PutsHaul words = PutsUnderRule (MayBeAsked words) words.rule.now (haul_text words)
 
--- what is put for the arguments of a soup: its pattern file
+-- a soup is written as a pattern file
 abbrev pub PutsSoup : SoupWords → Option (List ℕ) → Option (List ℕ) → Result (Unit {0}) Stop → Type 0
 PutsSoup words = PutsUnderRule (MaySoupBeAsked words) words.rule.now (soup_text words)

@@ -1,4 +1,4 @@
--- What makes the definitions of hauls believable.
+-- Laws that show that the definitions of hauls mean what they should.
 use Rattle.std.specs.Prelude.{◌≡◌, ◌↔◌, ◌≤◌, ℕ, ◌+◌, List, map, sum_by, Option, None, Some}
 use Rattle.std.specs.Option.{unwrap_or}
 use Rattle.std.specs.List.{Contains, range_with_len}
@@ -23,7 +23,7 @@ HaulsAddUp =
     (s : Symmetry) (root : List ℕ) (rule : RuleSets) (n limit first a b : ℕ) → haul_of s root rule n limit first (a + b)
     ≡ together (haul_of s root rule n limit first a) (haul_of s root rule n limit (first + a) b)
 
--- .. which joins the occurrences of each code: the counts add up, and the first soup is the smaller ..
+-- .. which joins the occurrences of each code: it adds the counts, and keeps the smaller number of a first soup ..
 abbrev pub TogetherByCodes : Type 0
 TogetherByCodes =
     (a b : HaulCounts) (code : List ℕ) → table.find row_cmp code (together a b).rows
@@ -33,13 +33,13 @@ TogetherByCodes =
 abbrev pub TogetherInAnyOrder : Type 0
 TogetherInAnyOrder = (a b : HaulCounts) → together a b ≡ together b a
 
--- .. and whichever two of three are added first.
+-- .. and in any grouping.
 abbrev pub TogetherInAnyGrouping : Type 0
 TogetherInAnyGrouping = (a b c : HaulCounts) → together (together a b) c ≡ together a (together b c)
 
 -- ---- occurrences
 
--- the number of clusters seen
+-- the number of clusters in occurrences that may be missing
 abbrev pub count_of : Option Occurrences → ℕ
 count_of None = 0
 count_of (Some s) = s.count
@@ -50,7 +50,7 @@ SeenIsLeast =
     (f : ℕ → ℕ) (ns : List ℕ) (s : Occurrences) → seen f ns ≡ Some s → (s.count ≡ sum_by f ns)
     × Contains ns s.first × (1 ≤ f s.first) × ((i : ℕ) → Contains ns i → 1 ≤ f i → s.first ≤ i)
 
--- .. and there are none exactly if the sum is 0.
+-- .. and there are no occurrences if and only if the sum is 0.
 abbrev pub NothingIsSeen : Type 0
 NothingIsSeen = (f : ℕ → ℕ) (ns : List ℕ) → (seen f ns ≡ None) ↔ (sum_by f ns ≡ 0)
 
@@ -61,7 +61,7 @@ abbrev pub soup_tally : Symmetry → List ℕ → RuleSets → ℕ → ℕ → �
 soup_tally s root rule n limit i =
     tally_of (λ P. code_of rule P limit) (clusters_of (generation_of rule (soup_of s root i) n))
 
--- how many clusters of a tally have a code
+-- the number of clusters in a tally that have this code
 abbrev pub count_in : List ℕ → TallyCounts → ℕ
 count_in code t = unwrap_or (table.find row_cmp code t.rows) 0
 
@@ -71,13 +71,13 @@ RowsAreOfTallies = (s : Symmetry) (root : List ℕ) (rule : RuleSets) (n limit f
     → table.find row_cmp code (haul_of s root rule n limit first count).rows
     ≡ seen (λ i. count_in code (soup_tally s root rule n limit i)) (range_with_len first count)
 
--- .. the rows ascend by their codes, byte by byte ..
+-- .. the codes of the rows ascend, byte by byte ..
 abbrev pub RowsAscend : Type 0
 RowsAscend =
     (s : Symmetry) (root : List ℕ) (rule : RuleSets) (n limit first count : ℕ) → IsStrictlySortedBy row_cmp
     (map (λ (row : List ℕ × Occurrences). row.0) (haul_of s root rule n limit first count).rows)
 
--- .. those of clusters without a code are those of the tallies ..
+-- .. the clusters without a code agree with the tallies too ..
 abbrev pub UnresolvedAreOfTallies : Type 0
 UnresolvedAreOfTallies = (s : Symmetry) (root : List ℕ) (rule : RuleSets) (n limit first count : ℕ)
     → (haul_of s root rule n limit first count).unresolved
@@ -92,8 +92,8 @@ ClustersCountOnce = (s : Symmetry) (root : List ℕ) (rule : RuleSets) (n limit 
     × ((haul_of s root rule n limit first count).total
     ≡ sum_by (λ i. (soup_tally s root rule n limit i).total) (range_with_len first count))
 
--- The sums of a table are right: the clusters are the sum of all rows, including those without a code, and the soups
--- are those of the range.
+-- The sums of a table are right: `clusters` is the sum over all rows and the clusters without a code, and `soups` is
+-- the length of the range.
 abbrev pub SumsAreCounts : Type 0
 SumsAreCounts = (s : Symmetry) (root : List ℕ) (rule : RuleSets) (n limit first count : ℕ)
     → ((haul_of s root rule n limit first count).total ≡ sum_by (λ (row : List ℕ × Occurrences). row.1.count)

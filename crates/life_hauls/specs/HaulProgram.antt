@@ -1,5 +1,5 @@
--- What the job that the arguments name does, and the status of the program. `Answers` of life_words says which job the
--- arguments name.
+-- The output of the job of a command line, and the exit status. `Answers` of life_words gives the job of the
+-- arguments.
 use Rattle.std.specs.Prelude.{◌≡◌, ◌↔◌, ℕ, List, Option, Some, Result, Err}
 use Rattle.std.specs.declared.process.ExitCode.{ExitCode}
 use Rattle.life_rle.specs.declared.stream.Outlet as outlet
@@ -15,7 +15,7 @@ use Rattle.life_hauls.specs.declared.haul_arguments.HaulJob.TheVariants.{Haul, S
 use Rattle.life_hauls.specs.HaulJobs.{MayBeAsked, PutsHaul, MaySoupBeAsked, PutsSoup}
 use Rattle.life_hauls.specs.HaulWords.{Asked, asked_by}
 
--- What a job with valid arguments puts, and when it is refused: first for its numbers and its root, then for its rule.
+-- How a job answers. It is refused first for its numbers and its root, then for its rule; otherwise `Puts` holds.
 pub record DoesIfAsked (MayBe : Type 0) (rule : List ℕ) (Puts : Result (Unit {0}) Stop → Type 0)
     (answer : Result (Unit {0}) Stop) : Type 0 where
   pub limit : (answer ≡ Err OutOfLimit) ↔ ¬ MayBe
@@ -27,9 +27,9 @@ abbrev pub DoesJob : HaulJob → Option (List ℕ) → Option (List ℕ) → Res
 DoesJob (Haul words) old new = DoesIfAsked (MayBeAsked words) words.rule.now (PutsHaul words old new)
 DoesJob (Soup words) old new = DoesIfAsked (MaySoupBeAsked words) words.rule.now (PutsSoup words old new)
 
--- The outcome for arguments that name this job, or none. It was done on this output, and the status is 0, or 1 if it
--- stopped; or nothing was put, and the status is that of the fault, which is out of memory or, exactly if they name no
--- job, a usage error.
+-- The outcome for a command line. Either its job was done on this output, and the status is 0, or 1 if it stopped. Or
+-- nothing was written, and the fault decides the status. The fault is out of memory or, if and only if the arguments
+-- are not valid, a usage error.
 pub data HaulEnd {O E : Type 0} (o : outlet.Ghosts O) (words : Option Asked) (output sent : O)
     (result : Result ExitCode E) : Type 0 where
   does : (job : HaulJob) (answer : Result (Unit {0}) Stop) → words ≡ Some (asked_by job)

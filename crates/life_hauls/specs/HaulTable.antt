@@ -1,5 +1,5 @@
--- The table of a haul: its arguments, the counts as comma-separated values (RFC 4180, with a header line; lines end in
--- a line feed alone), and the sums.
+-- The table of a haul: its arguments, the counts and the sums. The counts are comma-separated values (RFC 4180 with a
+-- header), but lines end in a line feed without a carriage return.
 use Rattle.std.specs.Prelude.{ℕ, List, [], ◌∷◌, ◌++◌, codes, Option, None, Some}
 use Rattle.std.specs.Fmt.{decimal}
 use Rattle.std.specs.List.{flat_map}
@@ -32,26 +32,26 @@ heading s root rule n limit =
 abbrev pub occurrences_text : Occurrences → List ℕ
 occurrences_text s = decimal s.count ++ comma ∷ decimal s.first
 
--- the same, if there may be none
+-- the same for clusters without a code: `0,` if there are none
 abbrev pub unresolved_text : Option Occurrences → List ℕ
 unresolved_text None = codes "0,"
 unresolved_text (Some s) = occurrences_text s
 
--- a line: a text, a comma, its occurrences, and a line feed
+-- the line of a code with its occurrences: `xs4_33,5,17` counts five blocks, the first in soup 17
 abbrev pub line : List ℕ × Occurrences → List ℕ
 line row = row.0 ++ comma ∷ occurrences_text row.1 ++ line_feed ∷ []
 
--- a header, a line for each code with its occurrences, and a line with those of clusters without a code
+-- a header, a line for each code, and a line for the clusters without a code
 abbrev pub counts_text : HaulCounts → List ℕ
 counts_text h =
     codes "code,count,first\n" ++ flat_map line h.rows ++ codes "unresolved,"
     ++ unresolved_text h.unresolved ++ codes "\n"
 
--- the number of clusters; and the number of soups, with that of the first
+-- the number of clusters, and the number of soups with the number of the first
 abbrev pub sums_text : ℕ → HaulCounts → List ℕ
 sums_text first h =
     codes "clusters," ++ decimal h.total ++ codes ",\nsoups," ++ decimal h.soups ++ comma ∷ decimal first ++ codes "\n"
 
--- the whole table
+-- the complete table
 abbrev pub csv_text : Symmetry → List ℕ → RuleSets → ℕ → ℕ → ℕ → HaulCounts → List ℕ
 csv_text s root rule n limit first h = heading s root (rule_text rule) n limit ++ counts_text h ++ sums_text first h

@@ -1,5 +1,4 @@
--- Hauls: how often each code occurs in the fields of many soups, and the first soup that has it (Catagolue, "haul" and
--- "census").
+-- Hauls: for each code its count over many soups, and the first soup that has it (Catagolue, "haul" and "census").
 use Rattle.std.specs.Prelude.{ℕ, zero, suc, ◌+◌, min, Bool, true, false, List, [], ◌∷◌, ◌++◌, map, length, sum_by}
 use Rattle.std.specs.Prelude.{count_by, filter, Option, None, Some, option_map, is_none, refl}
 use Rattle.std.specs.Coded.{Coded, code_by, coded×, coded_ℕ, coded_list, coded_option}
@@ -21,21 +20,21 @@ use Rattle.life_hauls.specs.Soups.{soup_of}
 abbrev pub row_seen : {A : Type 0} → HaulRow A → List ℕ × Occurrences
 row_seen r = (r.code, r.seen)
 
--- codes with their occurrences, the occurrences of clusters without a code, the number of soups, and the number of
--- clusters
+-- the counts of a haul: codes with their occurrences, the clusters without a code, the number of soups, and the number
+-- of all clusters
 pub record HaulCounts : Type 0 where
   pub rows : List (List ℕ × Occurrences)
   pub unresolved : Option Occurrences
   pub soups : ℕ
   pub total : ℕ
 
--- occurrences are stored as the pair of their parts
+-- encodes occurrences as a pair
 abbrev pub coded_occurrences : Coded Occurrences
 coded_occurrences =
     code_by (ℕ × ℕ) (coded× coded_ℕ coded_ℕ) (λ s. (s.count, s.first))
     (λ p. record { count = p.0; first = p.1 }) (λ _. refl)
 
--- and so are the counts
+-- encodes the counts as nested pairs
 abbrev pub coded_counts : Coded HaulCounts
 coded_counts =
     code_by (List (List ℕ × Occurrences) × (Option Occurrences × (ℕ × ℕ)))
@@ -52,46 +51,46 @@ abbrev pub lesser_number : ℕ → Option ℕ → ℕ
 lesser_number n None = n
 lesser_number n (Some m) = min n m
 
--- the least of some numbers, if there is one
+-- the least number of a list, if it is not empty
 abbrev pub least_number : List ℕ → Option ℕ
 least_number [] = None
 least_number (n ∷ ns) = Some (lesser_number n (least_number ns))
 
--- whether a number is not 0
+-- whether n is not 0
 abbrev pub is_positive : ℕ → Bool
 is_positive zero = false
 is_positive (suc n) = true
 
--- if soup i has f i of something: how many the soups with these numbers have, and the least number whose soup has one;
--- None if no soup has any
+-- If soup i has f i clusters of some sort: how many the soups with these numbers have together, and the least number
+-- of a soup with one. `None` if no soup has any.
 unfoldable pub seen : (ℕ → ℕ) → List ℕ → Option Occurrences
 seen f ns =
     option_map (λ i. record { count = sum_by f ns; first = i }) (least_number (filter (λ i. is_positive (f i)) ns))
 
--- each text of a list for which f has a value, with that value, in byte order and each once
+-- each text of a list for which f has a value, once, with this value, in byte order
 unfoldable pub rows_by : (List ℕ → Option Occurrences) → List (List ℕ) → List (List ℕ × Occurrences)
 rows_by f ts = table.entries (table.from_entries {R = row_cmp} (filter_map (λ t. option_map (λ s. (t, s)) (f t)) ts))
 
--- occurrences together with others
+-- adds occurrences: the counts add up, and the smaller number of a soup is the first
 abbrev pub both : Occurrences → Occurrences → Occurrences
 both a b = record { count = a.count + b.count; first = min a.first b.first }
 
--- occurrences together with earlier ones, if there are any
+-- adds occurrences to earlier ones, if there are any
 abbrev pub more : Option Occurrences → Occurrences → Occurrences
 more None s = s
 more (Some a) s = both a s
 
--- the occurrences in two hauls, together
+-- adds the occurrences in two hauls, each of which may have none
 abbrev pub joined : Option Occurrences → Option Occurrences → Option Occurrences
 joined a None = a
 joined a (Some s) = Some (more a s)
 
--- the codes of clusters that have one
+-- the codes of those clusters that have one
 abbrev pub texts_in : List (Option (List ℕ)) → List (List ℕ)
 texts_in os = filter_map (λ o. o) os
 
--- the counts over the soups with these numbers; `codes i` is the list of the codes of the clusters of soup i, with None
--- for a cluster without a code
+-- The counts over the soups with these numbers. `codes i` lists the codes of soup i's clusters, with None for a
+-- cluster without a code.
 unfoldable pub counts_over : (ℕ → List (Option (List ℕ))) → List ℕ → HaulCounts
 counts_over codes ns = record {
   rows = rows_by (λ t. seen (λ i. how_often t (texts_in (codes i))) ns) (flat_map (λ i. texts_in (codes i)) ns);
@@ -100,7 +99,7 @@ counts_over codes ns = record {
   total = sum_by (λ i. length (codes i)) ns;
 }
 
--- the sum of two hauls, for hauls that several machines have counted
+-- the sum of two hauls, which may come from different machines
 unfoldable pub together : HaulCounts → HaulCounts → HaulCounts
 together a b = record {
   rows =
@@ -116,6 +115,6 @@ abbrev pub soup_codes : Symmetry → List ℕ → RuleSets → ℕ → ℕ → �
 soup_codes s root rule n limit i =
     map (λ P. code_of rule P limit) (clusters_of (generation_of rule (soup_of s root i) n))
 
--- the haul over this many soups, from a first number on
+-- the haul over `count` soups, beginning with number `first`
 abbrev pub haul_of : Symmetry → List ℕ → RuleSets → ℕ → ℕ → ℕ → ℕ → HaulCounts
 haul_of s root rule n limit first count = counts_over (soup_codes s root rule n limit) (range_with_len first count)

@@ -1,4 +1,4 @@
--- Counting soup by soup, and the sum of two hauls.
+-- The state while a haul is counted, soup by soup.
 use Rattle.std.specs.Prelude.{◌≡◌, ◌≢◌, ℕ, ◌+◌, ◌<◌, ◌≤◌, List, fold, length, slice_index_or, Option, None, Some}
 use Rattle.std.specs.declared.cmp.Ordering.TheVariants.{Less, Equal, Greater}
 use Rattle.std.specs.FinMap as table
@@ -11,20 +11,20 @@ use Rattle.life_hauls.specs.Hauls.{HaulCounts, more}
 abbrev pub once : ℕ → Occurrences
 once i = record { count = 1; first = i }
 
--- rows with one more cluster of a code, in soup i
+-- the rows after counting one more cluster with this code, in soup i
 abbrev pub noted : ℕ → List (List ℕ × Occurrences) → List ℕ → List (List ℕ × Occurrences)
 noted i rows t = table.put row_cmp t (more (table.find row_cmp t rows) (once i)) rows
 
--- one more cluster of soup i, by its code
+-- the haul after counting one more cluster of soup i, with or without a code
 abbrev pub with_code : ℕ → HaulCounts → Option (List ℕ) → HaulCounts
 with_code i h None = record h { unresolved = Some (more h.unresolved (once i)); total = h.total + 1 }
 with_code i h (Some t) = record h { rows = noted i h.rows t; total = h.total + 1 }
 
--- the clusters of soup i, by their codes
+-- the haul after counting these clusters of soup i
 abbrev pub with_codes : ℕ → HaulCounts → List (Option (List ℕ)) → HaulCounts
 with_codes i h os = fold (with_code i) h os
 
--- one more soup
+-- the haul after counting the clusters of soup i and the soup itself
 abbrev pub with_soup : ℕ → HaulCounts → List (Option (List ℕ)) → HaulCounts
 with_soup i h os = record (with_codes i h os) { soups = h.soups + 1 }
 
@@ -41,7 +41,7 @@ AreNotBelow {A} rows t i =
 abbrev pub IsRowOf : {A : Type 0} → List (HaulRow A) → List ℕ → ℕ → Type 0
 IsRowOf {A} rows t i = (i < length rows) × ((d : HaulRow A) → row_cmp t (slice_index_or rows i d).code ≡ Equal)
 
--- a row at place i, if there is one, has a greater code
+-- the row at place i has a greater code, or there is no such row
 abbrev pub IsPlaceFor : {A : Type 0} → List (HaulRow A) → List ℕ → ℕ → Type 0
 IsPlaceFor {A} rows t i =
     (i ≤ length rows) × (i < length rows → (d : HaulRow A) → row_cmp t (slice_index_or rows i d).code ≡ Less)

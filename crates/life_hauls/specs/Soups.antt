@@ -17,7 +17,7 @@ use Rattle.life_hauls.specs.declared.symmetry.Mirror.TheVariants.{OnRow, Between
 
 -- ---- symmetries
 
--- a symmetry: its usual name, how many cells a row has, and the mirror whose image is added, if there is one
+-- a symmetry: its usual name, the number of cells in a row, and the mirror whose image is added, if any
 pub record SymmetryRow : Type 0 where
   pub name : List ℕ
   pub width : ℕ
@@ -41,7 +41,7 @@ width s = (row_of s).width
 abbrev pub mirror : Symmetry → Option Mirror
 mirror s = (row_of s).mirror
 
--- the symmetry of a name
+-- the symmetry that has this name, if any
 abbrev pub symmetry_named : List ℕ → Option Symmetry
 symmetry_named name =
     if bytes_eq name (codes "C1") then Some C1
@@ -81,26 +81,26 @@ with_images (Some m) cs = cs ++ map (mirrored m) cs
 abbrev pub soup_cells : Symmetry → List ℕ → List Cell
 soup_cells s digest = with_images (mirror s) (live_cells (width s) digest 256)
 
--- soup i of a root text: the cells whose bits are 1 in the digest of the root and the decimal digits of i, with their
--- mirror images if the symmetry has a mirror
+-- Soup i of a root text: each cell is a bit of the SHA-256 digest of the root followed by the decimal digits of i. If
+-- the symmetry has a mirror, the mirror images are added.
 unfoldable pub soup_of : Symmetry → List ℕ → ℕ → Cells
 soup_of s root i = set.from_list (soup_cells s (sha256 (root ++ decimal i)))
 
 -- ---- what makes this definition believable
 
--- A symmetry is the one with its name ..
+-- Each symmetry is read from its own name ..
 abbrev pub NamesAreRead : Type 0
 NamesAreRead = (s : Symmetry) → symmetry_named (symmetry_name s) ≡ Some s
 
--- .. and with no other name.
+-- .. and from no other.
 abbrev pub NamesAreOne : Type 0
 NamesAreOne = (name : List ℕ) (s : Symmetry) → symmetry_named name ≡ Some s → name ≡ symmetry_name s
 
--- how many bytes hold the bits of a row
+-- the number of bytes for the bits of a row
 abbrev pub row_bytes : Symmetry → ℕ
 row_bytes s = width s / 8
 
--- If b bytes are a row, bit k of byte j, the highest bit first, is the cell at column k + 8 * (j % b) of row j / b ..
+-- A row has b bytes. Bit k of byte j, the highest bit first, is the cell in column k + 8 * (j % b) of row j / b ..
 abbrev pub BitsAreCells : Type 0
 BitsAreCells = (s : Symmetry) (root : List ℕ) (i j k : ℕ) → j < 32 → k < 8
     → set.contains (soup_of s root i) (record { row = pos (j / row_bytes s); column = pos (k + 8 * (j % row_bytes s)) })
@@ -112,12 +112,12 @@ MirrorsKeepSoups =
     (s : Symmetry) (m : Mirror) (root : List ℕ) (i : ℕ) (c : Cell) → mirror s ≡ Some m
     → set.contains (soup_of s root i) (mirrored m c) ≡ set.contains (soup_of s root i) c
 
--- a cell is this one, or its mirror image, if there is a mirror
+-- c is the cell d or, if there is a mirror, the mirror image of d
 abbrev pub IsCellOrImage : Option Mirror → Cell → Cell → Type 0
 IsCellOrImage None d c = c ≡ d
 IsCellOrImage (Some m) d c = (c ≡ d) ⊎ (c ≡ mirrored m d)
 
--- .. and all cells lie in the field of 256 cells or are mirror images of such cells.
+-- .. and every cell lies in the field of 256 cells, or is the mirror image of such a cell.
 abbrev pub SoupsAreFields : Type 0
 SoupsAreFields = (s : Symmetry) (root : List ℕ) (i : ℕ) (c : Cell) → set.contains (soup_of s root i) c ≡ true
     → (x : ℕ) × (y : ℕ) × (x < width s) × (y < 256 / width s)

@@ -2,7 +2,7 @@
 ghost use Rattle.std.specs.Prelude.{◌≡◌, codes, map, option_map, IfOk, false};
 ghost use Rattle.clap.specs.Words.{app_of, rule_of, rows_of, found_of, subcommand_rows_of};
 ghost use Rattle.life_words.specs.Words.{text_rule, text_at, MakesCommand, Answers};
-ghost use Rattle.life_hauls.specs.HaulWords.{rule_rule, symmetry_rule, soup_app, haul_alone, haul_app, asked_by, rule_or_life, symmetry_or_c1, is_any_before};
+ghost use Rattle.life_hauls.specs.HaulWords.{rule_rule, symmetry_rule, soup_app, bare_haul, haul_app, asked_by, rule_or_life, symmetry_or_c1, is_any_before};
 ghost use Rattle.life_hauls.specs.HaulWords.{haul_in as haul_of_rows, soup_in as soup_of_rows, job_named, job_of, words_job};
 
 use crate::haul_jobs::{HaulWords, SoupWords};
@@ -45,16 +45,15 @@ Prints:  the soup as canonical RLE; its first live column and row are moved to 0
 Refuses: out-of-limit, bad-rule, unavailable
 Example: life-haul soup abc 17";
 
-/// What to do.
+/// What the arguments tell `life-haul` to do.
 #[derive(Clone, Copy, Debug, PartialEq, Eq)]
 pub enum HaulJob<'a> {
     /// Print the table of a haul.
     Haul(HaulWords<'a>),
-    /// Print a soup.
+    /// Print one soup as a pattern file.
     Soup(SoupWords<'a>),
 }
 
-// The option `--rule`.
 fn rule_arg<'a>(alloc: Global) -> Arg<'a>
     ensures rule { rule_of result ≡ rule_rule }
     ensures local { result.global ≡ false }
@@ -64,7 +63,7 @@ fn rule_arg<'a>(alloc: Global) -> Arg<'a>
         .help("The rule, B3/S23 by default")
 }
 
-// The option `--symmetry`.
+// `clap` accepts any name here; [`no_job`] reports an unknown one.
 fn symmetry_arg<'a>(alloc: Global) -> Arg<'a>
     ensures rule { rule_of result ≡ symmetry_rule }
     ensures local { result.global ≡ false }
@@ -74,7 +73,7 @@ fn symmetry_arg<'a>(alloc: Global) -> Arg<'a>
     )
 }
 
-// The root text.
+// `clap` accepts any text here; the job checks its form.
 fn root_arg<'a>(alloc: Global) -> Arg<'a>
     ensures rule { rule_of result ≡ text_rule (codes "ROOT") }
     ensures local { result.global ≡ false }
@@ -103,9 +102,9 @@ fn soup_command<'a>(alloc: Global) -> Result<Command<'a>, AllocError>
     with_arg(command, symmetry_arg(alloc))
 }
 
-// The command without its arguments.
-fn command_alone<'a>(alloc: Global) -> Command<'a>
-    ensures { app_of result ≡ haul_alone }
+// `life-haul` without its arguments. It has no subcommand `help`, so `help` is a root like any other.
+fn bare_command<'a>(alloc: Global) -> Command<'a>
+    ensures { app_of result ≡ bare_haul }
 {
     program_command(
         alloc,
@@ -118,11 +117,11 @@ fn command_alone<'a>(alloc: Global) -> Command<'a>
     .disable_help_subcommand(true)
 }
 
-/// The command of `life-haul`, with its arguments in their order, and its subcommand.
+/// The command of `life-haul`: its arguments in order, and the subcommand `soup`.
 pub fn haul_command<'a>(alloc: Global) -> Result<Command<'a>, AllocError>
     ensures { IfOk result (λ command. app_of command ≡ haul_app) }
 {
-    let command = with_arg(Ok(command_alone(alloc)), root_arg(alloc));
+    let command = with_arg(Ok(bare_command(alloc)), root_arg(alloc));
     let command = with_arg(
         command,
         number_arg(
@@ -142,7 +141,7 @@ pub fn haul_command<'a>(alloc: Global) -> Result<Command<'a>, AllocError>
     with_command(command, soup_command(alloc))
 }
 
-// The text of the rule, or that of Conway's Life if none is given.
+// Conway's Life if no rule is given.
 fn rule_in<'a>(found: &ArgMatches<'a>) -> &'a str
     ensures { result.now ≡ rule_or_life (text_at (codes "RULE") (rows_of (found_of found.now))) }
 {
@@ -152,7 +151,7 @@ fn rule_in<'a>(found: &ArgMatches<'a>) -> &'a str
     }
 }
 
-// The symmetry with the given name, or C1 if none is given.
+// C1 if no symmetry is given, and `None` for an unknown name.
 fn symmetry_in(found: &ArgMatches<'_>) -> Option<Symmetry>
     ensures { result ≡ symmetry_or_c1 (text_at (codes "NAME") (rows_of (found_of found.now))) }
 {
@@ -162,7 +161,6 @@ fn symmetry_in(found: &ArgMatches<'_>) -> Option<Symmetry>
     }
 }
 
-// The haul of the arguments that were found.
 fn haul_in<'a>(found: &ArgMatches<'a>) -> Option<HaulJob<'a>>
     ensures { option_map asked_by result ≡ haul_of_rows (rows_of (found_of found.now)) }
 {
@@ -177,7 +175,6 @@ fn haul_in<'a>(found: &ArgMatches<'a>) -> Option<HaulJob<'a>>
     }))
 }
 
-// The soup of the arguments that were found.
 fn soup_in<'a>(found: &ArgMatches<'a>) -> Option<HaulJob<'a>>
     ensures { option_map asked_by result ≡ soup_of_rows (rows_of (found_of found.now)) }
 {
@@ -189,7 +186,6 @@ fn soup_in<'a>(found: &ArgMatches<'a>) -> Option<HaulJob<'a>>
     }))
 }
 
-// The job of the subcommand of this name.
 fn job_named<'a>(name: &str, found: &ArgMatches<'a>) -> Option<HaulJob<'a>>
     ensures { option_map asked_by result ≡ job_named name.now (rows_of (found_of found.now)) }
 {
@@ -199,7 +195,7 @@ fn job_named<'a>(name: &str, found: &ArgMatches<'a>) -> Option<HaulJob<'a>>
     }
 }
 
-// The job of the arguments that were found. There may be none in front of a subcommand.
+// `None` for an unknown symmetry, or if a subcommand comes after other arguments.
 fn job_in<'a>(matches: &ArgMatches<'a>) -> Option<HaulJob<'a>>
     ensures { option_map asked_by result ≡ job_of (rows_of (found_of matches.now)) (subcommand_rows_of matches.now) }
 {
@@ -212,7 +208,7 @@ fn job_in<'a>(matches: &ArgMatches<'a>) -> Option<HaulJob<'a>>
     job_named(name, found)
 }
 
-// Whether a root, a rule or a symmetry was found.
+// Whether there are arguments before the subcommand. `ROOT` comes first, so the numbers need no test.
 fn is_any_before(matches: &ArgMatches<'_>) -> bool
     ensures { result ≡ is_any_before (rows_of (found_of matches.now)) }
 {
@@ -221,7 +217,7 @@ fn is_any_before(matches: &ArgMatches<'_>) -> bool
         || text_in(matches, "NAME").is_some()
 }
 
-// The error for arguments that name no job: some are in front of a subcommand, or there is no such symmetry.
+// The usage error if [`job_in`] finds no job, in clap's form.
 fn no_job(alloc: Global, matches: &ArgMatches<'_>) -> Result<Error, AllocError> {
     let mut command = haul_command(alloc)?;
     if matches.subcommand().is_some() && is_any_before(matches) {
@@ -236,7 +232,7 @@ fn no_job(alloc: Global, matches: &ArgMatches<'_>) -> Result<Error, AllocError> 
     )
 }
 
-/// The job that the arguments name. The first one is the program's name, as in `env::args`.
+/// Reads the command line of `life-haul`. The first argument is the program's name, as in `env::args`.
 ///
 /// A request for help is also a fault: `BadWords` with the text of the help.
 pub fn read_haul_words<'a, S: AsStr>(

@@ -1,4 +1,4 @@
-//! The jobs of `life-haul`: the table of a haul, and a soup.
+//! The jobs of `life-haul`: printing the table of a haul, or one soup.
 ghost use Rattle.std.specs.Prelude.{◌≡◌, ◌↔◌, ◌≤◌, Err, IfOk, IsTrue};
 ghost use Rattle.std.specs.List.{list_all};
 ghost use Rattle.std.specs.Option.{MatchOption};
@@ -17,10 +17,10 @@ use life_jobs::{Stop, put_text};
 use life_rle::{Outlet, into_plain, write};
 use std::alloc::Global;
 
-/// The most soups of a haul.
+/// The largest number of soups in one haul.
 pub const COUNT_LIMIT: u64 = 1_000_000;
 
-/// The greatest number of a haul's first soup: 2 to the power 53.
+/// The largest number of a haul's first soup, 2 to the power 53.
 pub const FIRST_LIMIT: u64 = 9_007_199_254_740_992;
 
 /// The arguments of a haul, unchecked.

@@ -1,4 +1,4 @@
-//! From the arguments of `life-haul` to its status.
+//! Runs `life-haul`: from its arguments to its exit status.
 ghost use Rattle.std.specs.Prelude.{map, MatchResult};
 ghost use Rattle.life_program.specs.Job.{IsStatus};
 ghost use Rattle.life_jobs.specs.Streams.{PutsOnce};
@@ -17,7 +17,7 @@ use std::convert::AsStr;
 use std::io;
 use std::process::ExitCode;
 
-/// Does the job. The watch gets the progress of a haul.
+/// `watch` is called only during a haul.
 fn do_job<O: Outlet, W: HaulWatch>(
     alloc: Global,
     job: HaulJob<'_>,
@@ -33,7 +33,7 @@ fn do_job<O: Outlet, W: HaulWatch>(
     }
 }
 
-/// The status after a job; prints the line of a stop on standard error.
+/// Prints the line of a stop on standard error.
 fn print_done(rt: &HostRuntime, done: Result<(), Stop>) -> io::Result<ExitCode>
     ensures { MatchResult done (λ _. IsStatus result 0) (λ _. IsStatus result 1) }
 {
@@ -43,8 +43,9 @@ fn print_done(rt: &HostRuntime, done: Result<(), Stop>) -> io::Result<ExitCode>
     }
 }
 
-/// Does the job that the arguments name; the first argument is the program's name. Returns the status of the process: 0; 1 if the job stopped,
-/// with a line on standard error; 2 if the arguments name no job, with the text from `clap`. Calls the watch's `ended` before it prints anything.
+/// Does the job that the arguments name; the first one is the program's name. Returns the exit status: 0 if the job
+/// was done, 1 if it stopped, 2 for a usage error or a request for help. After a job, it calls the watch's `ended`
+/// before it prints the line of a stop.
 pub fn run_words<O: Outlet, W: HaulWatch>(
     rt: &HostRuntime,
     words: &[String],
@@ -63,7 +64,7 @@ pub fn run_words<O: Outlet, W: HaulWatch>(
     }
 }
 
-/// Like [`run_words`], with the arguments of the process and standard output.
+/// Calls [`run_words`] with the process's arguments and standard output.
 pub fn run_program<W: HaulWatch>(rt: &HostRuntime, watch: &mut W) -> io::Result<ExitCode> {
     let words = match words_of(rt, || haul_command(rt.alloc())) {
         Ok(words) => words,

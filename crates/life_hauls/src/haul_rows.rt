@@ -1,4 +1,4 @@
-//! The rows of a haul: codes with their occurrences.
+//! The contents of a haul: codes with their occurrences.
 ghost use Rattle.std.specs.Prelude.{◌≡◌, [], None, map};
 ghost use Rattle.life_hauls.specs.Hauls.{row_seen};
 
@@ -6,22 +6,22 @@ use life_census::CodeText;
 use std::alloc::{Allocator, Global};
 use std::marker::Model;
 
-/// Occurrences: how many clusters there were, and the least number of a soup with one.
+/// The number of clusters, and the least number of a soup with one.
 #[derive(Clone, Copy, Debug, PartialEq, Eq)]
 pub struct Occurrences {
     pub count: u64,
     pub first: u64,
 }
 
-/// A code and its occurrences.
+/// A code, with the clusters that have it.
 #[derive(Debug, Drop)]
 pub struct HaulRow<A: Allocator = Global> {
     pub code: CodeText<A>,
     pub seen: Occurrences,
 }
 
-/// The counts over many soups: a row for each code in byte order, the occurrences of clusters without a code, the number of soups, and the
-/// number of clusters.
+/// The counts over many soups: a row for each code in byte order, the clusters without a code, the number of soups,
+/// and the number of all clusters.
 #[derive(Debug, Drop)]
 pub struct Haul<A: Allocator = Global> {
     pub rows: Vec<HaulRow<A>, A>,
@@ -42,7 +42,7 @@ impl<A: Allocator> Model for Haul<A> {
 }
 
 impl<A: Allocator> Haul<A> {
-    /// The haul over no soups.
+    /// A haul over no soups, where counting starts.
     pub(crate) fn none(alloc: A) -> Haul<A>
         ensures { result ≡ record { rows = []; unresolved = None; soups = 0; total = 0 } }
     {

@@ -1,4 +1,4 @@
-//! The table of a haul.
+//! Writes the table of a haul: its question, the counts and the sums.
 ghost use Rattle.std.specs.Prelude.{◌≡◌, ◌++◌, map, IfOk, OnOk};
 ghost use Rattle.std.specs.Fmt.{decimal};
 ghost use Rattle.std.specs.List.{flat_map};
@@ -12,7 +12,7 @@ use itoa::Buffer;
 use life_core::Fault;
 use std::alloc::{AllocError, Allocator};
 
-/// The table of the haul that answers a question. The haul says how many soups there were.
+/// The table of a haul, as `life-haul` prints it. The number of soups comes from `haul`, not from the question.
 pub fn csv<A: Allocator + Copy>(
     alloc: A,
     question: &HaulQuestion<'_>,
@@ -28,7 +28,7 @@ pub fn csv<A: Allocator + Copy>(
     Ok(out)
 }
 
-/// Writes the heading: what the question was, with the text of its rule.
+/// Writes the question, one comment line for each of its parts.
 fn put_heading<A: Allocator>(
     out: &mut Vec<u8, A>,
     question: &HaulQuestion<'_>,
@@ -51,7 +51,7 @@ fn put_heading<A: Allocator>(
     put_symmetry(out, question.symmetry)
 }
 
-/// Writes the line of a symmetry. `C1` has none: tables are older than the other symmetries, and did not change.
+/// `C1` has no line, so its tables are the same as before there were other symmetries.
 #[tactic(auto, unfolding(crate::specs::HaulTable::symmetry_line))]
 fn put_symmetry<A: Allocator>(out: &mut Vec<u8, A>, symmetry: Symmetry) -> Result<(), AllocError>
     ensures { OnOk result (out.new.items ≡ out.old.items ++ symmetry_line symmetry) }
@@ -62,7 +62,6 @@ fn put_symmetry<A: Allocator>(out: &mut Vec<u8, A>, symmetry: Symmetry) -> Resul
     }
 }
 
-/// Writes the line of a name and a text.
 #[tactic(auto, unfolding(crate::specs::HaulTable::named))]
 fn put_named<A: Allocator>(out: &mut Vec<u8, A>, name: &[u8], text: &[u8]) -> Result<(), AllocError>
     ensures { OnOk result (out.new.items ≡ out.old.items ++ named name.now text.now) }
@@ -73,7 +72,7 @@ fn put_named<A: Allocator>(out: &mut Vec<u8, A>, name: &[u8], text: &[u8]) -> Re
     Ok(())
 }
 
-/// Writes a name and a number.
+/// Writes no line end.
 fn put_number<A: Allocator>(
     out: &mut Vec<u8, A>,
     name: &[u8],
@@ -86,7 +85,7 @@ fn put_number<A: Allocator>(
     Ok(())
 }
 
-/// Writes the header line, the lines of the codes, and the line of the clusters without a code.
+/// The part in CSV, with a header.
 fn put_counts<A: Allocator>(out: &mut Vec<u8, A>, haul: &Haul<A>) -> Result<(), AllocError>
     ensures { OnOk result (out.new.items ≡ out.old.items ++ counts_text haul.now) }
 {
@@ -98,7 +97,7 @@ fn put_counts<A: Allocator>(out: &mut Vec<u8, A>, haul: &Haul<A>) -> Result<(), 
     Ok(())
 }
 
-/// Writes the lines with the numbers of clusters and of soups.
+/// Two more lines of CSV: all clusters, and all soups with the number of the first.
 fn put_sums<A: Allocator>(
     out: &mut Vec<u8, A>,
     first: u64,
@@ -113,7 +112,6 @@ fn put_sums<A: Allocator>(
     Ok(())
 }
 
-/// Writes the lines of rows.
 fn put_rows<A: Allocator>(out: &mut Vec<u8, A>, rows: &[HaulRow<A>]) -> Result<(), AllocError>
     ensures { OnOk result (out.new.items ≡ out.old.items ++ flat_map line (map row_seen rows.now)) }
 {
@@ -123,7 +121,7 @@ fn put_rows<A: Allocator>(out: &mut Vec<u8, A>, rows: &[HaulRow<A>]) -> Result<(
     Ok(())
 }
 
-/// Writes the line of a row.
+/// Codes need no quotes in CSV.
 fn put_row<A: Allocator>(out: &mut Vec<u8, A>, row: &HaulRow<A>) -> Result<(), AllocError>
     ensures { OnOk result (out.new.items ≡ out.old.items ++ line (row_seen row.now)) }
 {
@@ -134,7 +132,7 @@ fn put_row<A: Allocator>(out: &mut Vec<u8, A>, row: &HaulRow<A>) -> Result<(), A
     Ok(())
 }
 
-/// Writes a count and the number of a soup.
+/// Writes no line end.
 fn put_occurrences<A: Allocator>(out: &mut Vec<u8, A>, seen: Occurrences) -> Result<(), AllocError>
     ensures { OnOk result (out.new.items ≡ out.old.items ++ occurrences_text seen) }
 {
@@ -144,7 +142,7 @@ fn put_occurrences<A: Allocator>(out: &mut Vec<u8, A>, seen: Occurrences) -> Res
     Ok(())
 }
 
-/// Writes the occurrences of clusters without a code.
+/// Without any, the count is 0 and the soup is left empty.
 fn put_unresolved<A: Allocator>(
     out: &mut Vec<u8, A>,
     seen: Option<Occurrences>,

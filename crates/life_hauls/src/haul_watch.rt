@@ -1,15 +1,15 @@
-//! Reporting the progress of a haul.
+//! How a program learns of a haul's progress.
 
-/// Receives the progress of a haul. Nothing that the haul returns or writes depends on it.
+/// Receives the progress of a haul. It cannot affect the table.
 pub trait HaulWatch {
-    /// Called when `done` of `count` soups are counted.
+    /// Called after each soup: `done` of `count` soups are counted.
     fn report(&mut self, done: u64, count: u64);
 
     /// Called once the job has ended, before anything is printed about it.
     fn ended(&mut self);
 }
 
-/// Ignores the progress.
+/// A watch that ignores the progress.
 #[derive(Clone, Copy, Debug)]
 pub struct Unwatched;
 

@@ -1,4 +1,4 @@
-//! Hauls.
+//! Counts a haul, soup by soup.
 ghost use Rattle.std.specs.Prelude.{◌≡◌, ◌+◌, ◌≤◌, ◌<◌, ◌^◌, map, IfOk};
 ghost use Rattle.life_core.specs.Generations.{generation_of};
 ghost use Rattle.life_code.specs.Codes.{code_of};
@@ -16,7 +16,7 @@ use life_code::{PERIOD_LIMIT, settled_generation};
 use life_core::{Fault, GENERATION_LIMIT, Rule};
 use std::alloc::Allocator;
 
-/// What a haul counts: the clusters of a generation of soups, by their codes.
+/// The question of a haul: which soups, which generation of them, and how to find the codes of its clusters.
 #[derive(Clone, Copy)]
 pub struct HaulQuestion<'a> {
     /// The symmetry of the soups.
@@ -35,11 +35,12 @@ pub struct HaulQuestion<'a> {
     pub count: u64,
 }
 
-/// After this many soups, the remembered shapes are dropped. A haul keeps meeting new shapes without a code, so storing all of them would take
-/// memory proportional to the number of soups. CodeQuestion the usual shapes again takes a few hundredths of the time for this many soups.
+/// After this many soups, the known shapes are dropped. New shapes without a code keep coming, so the cache would grow
+/// with the number of soups. Finding the codes of the usual shapes again takes a few percent of the time for this many
+/// soups.
 const SOUPS_REMEMBERED: u64 = 4_096;
 
-/// Drops the remembered shapes, if it is time after this many soups.
+/// Called before each soup, with the number of soups counted so far.
 fn drop_shapes<A: Allocator + Copy>(
     alloc: A,
     question: &HaulQuestion<'_>,
@@ -56,7 +57,7 @@ fn drop_shapes<A: Allocator + Copy>(
     }
 }
 
-/// The codes of the clusters of a soup's generation.
+/// The codes of one soup's clusters. The cache has the question's rule and limit.
 fn codes_of_soup<A: Allocator + Copy>(
     alloc: A,
     question: &HaulQuestion<'_>,
@@ -72,8 +73,8 @@ fn codes_of_soup<A: Allocator + Copy>(
     cache.codes(alloc, &field)
 }
 
-/// The haul that a question asks for: how many clusters of its soups' generation have each code under the rule and the limit on the period, and
-/// the number of the first soup with one. After each soup, the watch is called with the progress.
+/// Counts the clusters of each soup's generation by code, and finds the first soup for each code. Calls the watch
+/// after each soup.
 pub fn haul<A: Allocator + Copy, W: HaulWatch>(
     alloc: A,
     question: &HaulQuestion<'_>,

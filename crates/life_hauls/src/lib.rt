@@ -1,4 +1,4 @@
-//! Hauls: counting the clusters of many random fields by their codes. Each field comes from a text and a number.
+//! Hauls: the clusters of many random fields, counted by code. A text and a number determine each field.
 #![tactic(auto)]
 
 mod haul_arguments;

@@ -1,4 +1,4 @@
-//! Counting the codes of one soup after another.
+//! Adds the codes of one soup after another to a haul.
 ghost use Rattle.std.specs.Prelude.{◌≡◌, ◌≤◌, T, length, map, OnOk, IfOk, MatchResult};
 ghost use Rattle.std.specs.FinMap as table;
 ghost use Rattle.std.specs.Ordering.{is_gt};
@@ -12,7 +12,7 @@ use life_core::Fault;
 use std::alloc::{AllocError, Allocator};
 use std::cmp::Ordering;
 
-/// Occurrences with one more cluster, in this soup.
+/// Adds one cluster in soup `number`. A count over 2^64 - 1 is reported as out of memory.
 fn more(seen: Option<Occurrences>, number: u64) -> Result<Occurrences, AllocError>
     ensures { IfOk result (λ s. s ≡ more seen (once number)) }
 {
@@ -31,7 +31,7 @@ fn more(seen: Option<Occurrences>, number: u64) -> Result<Occurrences, AllocErro
     }
 }
 
-/// Counts one more of a code.
+/// Adds 1 to the count of a code, or inserts a row for it.
 fn note<A: Allocator + Copy>(
     alloc: A,
     rows: &mut Vec<HaulRow<A>, A>,
@@ -55,7 +55,7 @@ fn note<A: Allocator + Copy>(
     Ok(())
 }
 
-/// The index of a code among rows, or the one where it belongs.
+/// A binary search: `Ok` with the index of the code, or `Err` with the index at which to insert it.
 fn place_of<A: Allocator>(rows: &[HaulRow<A>], code: &[u8]) -> Result<usize, usize>
     requires { T (table.is_sorted row_cmp (map row_seen rows.now)) }
     ensures before { MatchResult result (AreBelow rows.now code.now) (AreBelow rows.now code.now) }
@@ -71,7 +71,6 @@ fn place_of<A: Allocator>(rows: &[HaulRow<A>], code: &[u8]) -> Result<usize, usi
     }
 }
 
-/// The index of the first row whose code is not below a code.
 fn first_not_below<A: Allocator>(rows: &[HaulRow<A>], code: &[u8]) -> usize
     requires { T (table.is_sorted row_cmp (map row_seen rows.now)) }
     ensures bound { result ≤ length rows.now }
@@ -81,14 +80,14 @@ fn first_not_below<A: Allocator>(rows: &[HaulRow<A>], code: &[u8]) -> usize
     rows.partition_point(|row| is_below(row, code))
 }
 
-/// Whether the row has a smaller code.
+/// Whether the row's code comes before `code`, byte by byte.
 fn is_below<A: Allocator>(row: &HaulRow<A>, code: &[u8]) -> bool
     ensures { result ≡ is_gt (row_cmp code.now row.now.code) }
 {
     code.cmp(row.code.as_bytes()).is_gt()
 }
 
-/// Counts one more cluster of a soup, with its code or without one.
+/// Adds one cluster of soup `number`, with or without a code.
 fn count_cluster<A: Allocator + Copy>(
     alloc: A,
     haul: &mut Haul<A>,
@@ -109,7 +108,7 @@ fn count_cluster<A: Allocator + Copy>(
     Ok(())
 }
 
-/// Counts the clusters of one more soup, by their codes.
+/// Adds one soup, from the codes of its clusters.
 pub fn count_soup<A: Allocator + Copy>(
     alloc: A,
     haul: &mut Haul<A>,

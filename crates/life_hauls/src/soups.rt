@@ -1,4 +1,4 @@
-//! Soups: fields whose 256 cells are the bits of a digest.
+//! Makes soups: fields whose 256 cells are the bits of a digest.
 ghost use Rattle.std.specs.Prelude.{◌≡◌, ◌<◌, ◌++◌, IfOk, Some};
 ghost use Rattle.std.specs.Fmt.{decimal};
 ghost use Rattle.std.specs.List.{All};
@@ -13,8 +13,9 @@ use life_core::{Cell, Fault, Pattern};
 use sha2::{Digest, Sha256};
 use std::alloc::{AllocError, Allocator};
 
-/// The soup with this number under a root text: a field of 256 cells, row by row. A cell is live if its bit is 1 in the SHA-256 digest of
-/// the root and the number's decimal digits. The symmetry says how long a row is, and whether the mirror image is added.
+/// The soup with this number under a root text: a field of 256 cells, row by row. Each cell is a bit of the SHA-256
+/// digest of the root and the number's decimal digits, and 1 is live. The symmetry gives the length of a row, and adds
+/// the mirror image if it has a mirror.
 pub fn soup<A: Allocator + Copy>(
     alloc: A,
     symmetry: Symmetry,
@@ -28,7 +29,7 @@ pub fn soup<A: Allocator + Copy>(
     Pattern::from_list(soup_cells(alloc, symmetry, &digest)?)
 }
 
-/// The cells of the soup of a digest.
+/// May list a cell twice, if it is its own mirror image.
 fn soup_cells<A: Allocator + Copy>(
     alloc: A,
     symmetry: Symmetry,
@@ -44,7 +45,6 @@ fn soup_cells<A: Allocator + Copy>(
     }
 }
 
-/// Cells together with their mirror images.
 fn with_images<A: Allocator>(
     alloc: A,
     mirror: Mirror,
@@ -61,7 +61,7 @@ fn with_images<A: Allocator>(
     Ok(both)
 }
 
-/// The digest of a root text and the decimal digits of a number.
+/// There is no separator: root `a1` with number 0 and root `a` with number 10 give the same soup.
 fn digest_of(root: &[u8], number: u64) -> [u8; 32]
     ensures { result ≡ sha256 (root.now ++ decimal number) }
 {
@@ -72,7 +72,7 @@ fn digest_of(root: &[u8], number: u64) -> [u8; 32]
     hasher.finalize()
 }
 
-/// The cells whose bits are 1, in rows of this many cells.
+/// `width` is the number of cells in a row.
 fn live_cells<A: Allocator>(
     alloc: A,
     width: usize,
@@ -91,7 +91,7 @@ fn live_cells<A: Allocator>(
     Ok(cells)
 }
 
-/// Whether the bit with this index is 1; the highest bit of each byte comes first.
+/// The highest bit of each byte comes first.
 fn bit_at(digest: &[u8; 32], index: usize) -> bool
     requires { index < 256 }
     ensures { result ≡ bit_at digest.now index }
@@ -99,7 +99,6 @@ fn bit_at(digest: &[u8; 32], index: usize) -> bool
     (digest[index / 8] >> (7 - index % 8)) % 2 == 1
 }
 
-/// The cell with this index in the field, row by row, in rows of this many cells.
 fn field_cell(width: usize, index: usize) -> Cell
     requires some { 0 < width }
     requires index { index < 256 }

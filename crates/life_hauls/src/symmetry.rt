@@ -1,4 +1,4 @@
-//! The symmetries of soups: how many cells a row has, and whether the mirror image is added.
+//! The symmetries of soups: the length of a row, and a mirror.
 ghost use Rattle.std.specs.Prelude.{◌≡◌, ◌<◌};
 ghost use Rattle.life_core.specs.Cell.{IsCellWithin};
 ghost use Rattle.life_hauls.specs.Soups.{symmetry_name, symmetry_named, width, mirror, mirrored};
@@ -34,7 +34,7 @@ pub enum Mirror {
 }
 
 impl Symmetry {
-    /// The name, how many cells a row of the field has, and the mirror, if there is one.
+    /// One row of a table: the name, the number of cells in a row of the field, and the mirror, if any.
     fn row(self) -> (&'static str, usize, Option<Mirror>)
         ensures name { result.0.now ≡ symmetry_name self }
         ensures width { result.1 ≡ width self }
@@ -51,14 +51,14 @@ impl Symmetry {
         }
     }
 
-    /// The usual name of the symmetry.
+    /// The name that soup search programs use, such as `D2_+1`.
     pub fn name(self) -> &'static str
         ensures { result.now ≡ symmetry_name self }
     {
         self.row().0
     }
 
-    /// The symmetry of this name, if there is one.
+    /// Reads a name. Case matters.
     pub fn named(name: &str) -> Option<Symmetry>
         ensures { result ≡ symmetry_named name.now }
     {
@@ -74,7 +74,7 @@ impl Symmetry {
         }
     }
 
-    /// How many cells a row of the field has.
+    /// The number of cells in a row of the field.
     pub(crate) fn width(self) -> usize
         ensures cells { result ≡ width self }
         ensures some { 0 < result }
@@ -82,7 +82,7 @@ impl Symmetry {
         self.row().1
     }
 
-    /// The mirror of the symmetry, if it has one.
+    /// `None` if no mirror image is added.
     pub(crate) fn mirror(self) -> Option<Mirror>
         ensures { result ≡ mirror self }
     {
@@ -91,7 +91,7 @@ impl Symmetry {
 }
 
 impl Mirror {
-    /// The mirror image of a cell.
+    /// Maps row y to row -y or to row -y - 1.
     pub(crate) fn mirrored(self, cell: Cell) -> Cell
         requires { IsCellWithin 255 cell }
         ensures image { result ≡ mirrored self cell }

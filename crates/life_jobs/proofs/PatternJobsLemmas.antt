@@ -1,4 +1,4 @@
--- What a job answers, from what its steps answer.
+-- The answer of a job, from the answers of its steps.
 use Rattle.std.specs.Prelude.{◌≡◌, ◌≢◌, ℕ, List, Option, None, Some, Result, Ok, Err}
 use Rattle.std.proofs.Common.{ap, ◌∙◌, sym, subst}
 use Rattle.life_core.specs.Generations.{generation_of}
@@ -106,14 +106,14 @@ module _ (rule code text : List ℕ) (limit m : ℕ) (r : RuleSets) (rule_is : r
       → Refuses r text m fault → (fault ≢ code_faults.Memory → (X : Cells) → code_of r X m ≢ Some text)
       → PutsObject rule code limit old new (Err stop)
   refuses_code old new fault stop is within refuses none =
-      by_fault (λ stop. PutsObject rule code limit old new (Err stop)) fault stop is tt (λ judged. (
+      by_fault (λ stop. PutsObject rule code limit old new (Err stop)) fault stop is tt (λ not_memory. (
         within,
         record {
           rule_sets = r;
           rule_is = rule_is;
-          judged = judged;
+          not_memory = not_memory;
           refuses = for_words (λ t k. Refuses r t k fault) refuses;
-          no_code = for_words (λ t k. (X : Cells) → code_of r X k ≢ Some t) (none judged);
+          no_code = for_words (λ t k. (X : Cells) → code_of r X k ≢ Some t) (none not_memory);
         },
       ))
 

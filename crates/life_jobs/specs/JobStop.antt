@@ -1,5 +1,4 @@
--- The lines that a job over a file or a code prints on standard error, each without its line end. This program defines
--- them.
+-- The lines that a job over a file or a code prints on standard error, each without its line end.
 use Rattle.std.specs.Prelude.{ℕ, List, [], ◌++◌, codes}
 use Rattle.life_rle.specs.declared.rle_fault.RleFault.TheVariants as rle_faults
 use Rattle.life_rle.specs.RleFault as rle
@@ -9,7 +8,7 @@ use Rattle.life_jobs.specs.declared.stop.Stop.{Stop}
 use Rattle.life_jobs.specs.declared.stop.Stop.TheVariants.{OutOfLimit, BadPattern, BadRule, BadCode, Unreadable}
 use Rattle.life_jobs.specs.declared.stop.Stop.TheVariants.{Unavailable, Unwritable}
 
--- the line of a stop; it is empty if standard output failed
+-- the line for a stop, such as `refused: bad-pattern no-end`; empty if standard output failed
 abbrev pub line_of : Stop → List ℕ
 line_of OutOfLimit = codes "refused: out-of-limit"
 line_of (BadPattern rle_faults.Memory) = codes "refused: unavailable"

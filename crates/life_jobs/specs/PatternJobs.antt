@@ -1,4 +1,4 @@
--- What a job writes for its input, or for its arguments.
+-- The output of each job, from its input or its arguments.
 use Rattle.std.specs.Prelude.{◌≡◌, ◌≢◌, ◌≤◌, ℕ, List, [], ◌∷◌, ◌++◌, codes, Option, None, Some, Result, Ok, Err}
 use Rattle.std.specs.Fmt.{decimal, signed_decimal}
 use Rattle.life_core.specs.Ascii.{line_feed}
@@ -31,15 +31,15 @@ use Rattle.life_jobs.specs.declared.stop.Stop.TheVariants.{Unavailable, Unwritab
 
 -- ---- what is printed for a file
 
--- generation n of a record, in normal form and without texts
+-- generation n of a record, moved to the origin and without texts
 abbrev pub later : ℕ → Contents → Contents
 later n r = plain r.rule (generation_of r.rule r.cells n)
 
--- what is printed for a file, given what is printed for its record; or the file's first fault
+-- the output for a file, if `shown` gives the output for its record; or the first fault of the file
 unfoldable pub file_text : (Contents → List ℕ) → List ℕ → Result (List ℕ) RleFault
 file_text shown bytes = file bytes >>= λ r. Ok (shown r)
 
--- what `generation n` prints for a file
+-- the output of `generation n` for a file
 abbrev pub generation_text : ℕ → List ℕ → Result (List ℕ) RleFault
 generation_text n = file_text (λ r. text (later n r))
 
@@ -52,8 +52,8 @@ abbrev pub code_or_dash : Option (List ℕ) → List ℕ
 code_or_dash None = codes "-"
 code_or_dash (Some code) = code
 
--- the printed form of a kind: its name and, if it has them, the period, the columns and rows of its movement, and the
--- code
+-- the printed form of a kind: its name and, if it has them, the period, the move in columns and rows, and the code. A
+-- glider is `ship 4 1 1 xq4_153`.
 abbrev pub kind_words : Kind → Option (List ℕ) → List ℕ
 kind_words Empty code = codes "empty"
 kind_words Still code = codes "still " ++ code_or_dash code
@@ -67,7 +67,7 @@ kind_words Unresolved code = codes "unresolved"
 abbrev pub kind_line : RuleSets → Cells → ℕ → List ℕ
 kind_line r X limit = kind_words (kind_of r X limit) (code_of r X limit) ++ line_feed ∷ []
 
--- what `kind limit` prints for a file
+-- the output of `kind limit` for a file
 abbrev pub kind_text : ℕ → List ℕ → Result (List ℕ) RleFault
 kind_text limit = file_text (λ r. kind_line r.rule r.cells limit)
 
@@ -75,18 +75,18 @@ kind_text limit = file_text (λ r. kind_line r.rule r.cells limit)
 abbrev pub AreCensusNumbers : ℕ → ℕ → Type 0
 AreCensusNumbers n limit = (n ≤ GENERATION_LIMIT) × IsPeriodLimit limit
 
--- the CSV of the tally of the clusters of generation n of a record
+-- the census of generation n of a record, as CSV
 abbrev pub census_table : ℕ → ℕ → Contents → List ℕ
 census_table n limit r =
     csv_text (tally_of (λ P. code_of r.rule P limit) (clusters_of (generation_of r.rule r.cells n)))
 
--- what `census n limit` prints for a file
+-- the output of `census n limit` for a file
 abbrev pub census_text : ℕ → ℕ → List ℕ → Result (List ℕ) RleFault
 census_text n limit = file_text (census_table n limit)
 
 -- ---- what is printed for a code
 
--- the rule text is a rule under which the code is that of a set, and the text is that set's file
+-- the rule text is a rule under which the code names a set, and `all` is the file of that set
 pub record PrintsObject (rule code : List ℕ) (limit : ℕ) (all : List ℕ) : Type 0 where
   pub rule_sets : RuleSets
   pub cells : Cells
@@ -99,15 +99,15 @@ pub record PrintsObject (rule code : List ℕ) (limit : ℕ) (all : List ℕ) : 
 abbrev pub RefusesRule : List ℕ → Type 0
 RefusesRule rule = (fault : RuleFault) × (read_rule rule ≡ Err fault)
 
--- the rule text is a rule under which the code is refused with this fault and is not the code of any set
+-- the rule text is a rule, under which the code is refused with this fault and no set has it
 pub record RefusesCode (rule code : List ℕ) (limit : ℕ) (fault : CodeFault) : Type 0 where
   pub rule_sets : RuleSets
   pub rule_is : read_rule rule ≡ Ok rule_sets
-  pub judged : fault ≢ code_faults.Memory
+  pub not_memory : fault ≢ code_faults.Memory
   pub refuses : Refuses rule_sets code limit fault
   pub no_code : (X : Cells) → code_of rule_sets X limit ≢ Some code
 
--- what `object` answers to a rule text, a code and a limit; they are checked in the order limit, rule, code
+-- how `object` answers a rule text, a code and a limit; it checks the limit first and the code last
 abbrev pub PutsObject : List ℕ → List ℕ → ℕ → Option (List ℕ) → Option (List ℕ) → Result (Unit {0}) Stop → Type 0
 PutsObject rule code limit old new (Ok done) = (all : List ℕ) × PrintsObject rule code limit all × Appends old new all
 PutsObject rule code limit old new (Err OutOfLimit) = ¬ IsPeriodLimit limit
@@ -120,7 +120,7 @@ PutsObject rule code limit old new (Err stop) = ⊥
 
 -- ---- answers
 
--- what a job that prints `wanted` for a file answers to these bytes
+-- how a job answers these bytes, if `wanted` gives the output for each file
 abbrev pub PutsBytes : (List ℕ → Result (List ℕ) RleFault) → List ℕ → Option (List ℕ) → Option (List ℕ)
     → Result (Unit {0}) Stop → Type 0
 PutsBytes wanted bytes old new (Ok done) = (all : List ℕ) × (wanted bytes ≡ Ok all) × Appends old new all

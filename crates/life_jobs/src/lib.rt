@@ -1,4 +1,4 @@
-//! The jobs of `life` over a pattern file or a code, on any streams, and why they stop.
+//! The jobs of `life` that need no archive, on any streams, and why they stop.
 #![tactic(auto)]
 
 mod pattern_jobs;

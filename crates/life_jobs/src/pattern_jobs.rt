@@ -1,4 +1,4 @@
-//! The jobs of the program, over any streams.
+//! The jobs `generation`, `kind`, `census` and `object`, on any streams.
 ghost use Rattle.std.specs.Prelude.{◌≡◌, ℕ, List, codes, ◌≢◌, ◌<◌, ◌≤◌, ◌↔◌, Some, IfOk, IfErr, OnErr, Err};
 ghost use Rattle.std.specs.Option.{SomeIff, MatchOption};
 ghost use Rattle.life_core.specs.Pattern.{Cells, IsWithin};
@@ -24,7 +24,7 @@ use life_core::{Fault, GENERATION_LIMIT, Pattern, Rule};
 use life_rle::{Inlet, Outlet, Record, WriteFault, into_plain, write_to};
 use std::alloc::{AllocError, Global};
 
-/// Generation `n` of a record, without its texts and in normal form. Generation 0 reuses the record's memory.
+/// Drops the texts of the record, and moves the pattern to the origin. Generation 0 reuses the record's memory.
 fn later(alloc: Global, record: Record, n: u32) -> Result<Record, Fault>
     requires few { n ≤ GENERATION_LIMIT }
     requires inside { IsInside 1024 «record».cells }
@@ -38,7 +38,7 @@ fn later(alloc: Global, record: Record, n: u32) -> Result<Record, Fault>
     Ok(into_plain(alloc, rule, cells))
 }
 
-/// The printed form of a kind with a code.
+/// For example `oscillator 2 xp2_7`.
 fn kind_words(alloc: Global, kind: Kind, code: &[u8]) -> Result<Vec<u8>, AllocError>
     ensures { IfOk result (λ v. v.items ≡ kind_words kind (Some code.now)) }
 {
@@ -54,7 +54,7 @@ fn kind_words(alloc: Global, kind: Kind, code: &[u8]) -> Result<Vec<u8>, AllocEr
     Ok(words)
 }
 
-/// The text of a code, or `-` if there is none.
+/// `-` without a code, as for an object no phase of which fits into 40 by 40 cells.
 fn code_or_dash(code: &Option<Coded>) -> &[u8]
     ensures { (r : RuleSets) (X : Cells) (limit : ℕ) → IsCodeOf r X limit code.now → result.now ≡ code_or_dash (code_of r X limit) }
 {
@@ -64,7 +64,7 @@ fn code_or_dash(code: &Option<Coded>) -> &[u8]
     }
 }
 
-/// The line of the kind of a pattern.
+/// Searches for the period only once, for both the kind and the code.
 fn kind_line(alloc: Global, rule: &Rule, pattern: &Pattern, limit: u32) -> Result<Vec<u8>, Fault>
     requires limit { IsPeriodLimit limit }
     requires room { IsWithin 400_000_000 pattern.now }
@@ -77,7 +77,7 @@ fn kind_line(alloc: Global, rule: &Rule, pattern: &Pattern, limit: u32) -> Resul
     Ok(line)
 }
 
-/// The CSV of the tally of the clusters of generation `n` of a record.
+/// A census of generation `n` as CSV.
 fn census_table(alloc: Global, record: &Record, n: u32, limit: u32) -> Result<Vec<u8>, Fault>
     requires few { n ≤ GENERATION_LIMIT }
     requires limit { IsPeriodLimit limit }
@@ -89,7 +89,7 @@ fn census_table(alloc: Global, record: &Record, n: u32, limit: u32) -> Result<Ve
     csv(alloc, &tally)
 }
 
-/// Writes a record as canonical RLE.
+/// Makes the complete RLE first, so nothing is written if memory runs out.
 fn put_record<O: Outlet>(alloc: Global, record: &Record, output: &mut O) -> Result<(), Stop>
     ensures puts { PutsText (O.already output.old) (O.already output.new) (text «record».now) result }
     ensures once { PutsOnce output.old output.new (O.failures output.old) (O.failures output.new) (O.last_failed output.new) result }
@@ -101,7 +101,7 @@ fn put_record<O: Outlet>(alloc: Global, record: &Record, output: &mut O) -> Resu
     }
 }
 
-/// Writes a text, if there was memory for it.
+/// Writes a text, or passes on that memory ran out.
 fn put_made<O: Outlet>(output: &mut O, made: Result<Vec<u8>, Fault>) -> Result<(), Stop>
     ensures puts { (text : List ℕ) → IfOk made (λ v. v.items ≡ text) → PutsText (O.already output.old) (O.already output.new) text result }
     ensures once { PutsOnce output.old output.new (O.failures output.old) (O.failures output.new) (O.last_failed output.new) result }
@@ -112,7 +112,6 @@ fn put_made<O: Outlet>(output: &mut O, made: Result<Vec<u8>, Fault>) -> Result<(
     }
 }
 
-/// Writes generation `n` of a record.
 fn put_generation<O: Outlet>(
     alloc: Global,
     record: Record,
@@ -130,7 +129,6 @@ fn put_generation<O: Outlet>(
     }
 }
 
-/// Writes the line of the kind of a record's pattern.
 fn put_kind<O: Outlet>(
     alloc: Global,
     record: &Record,
@@ -145,7 +143,6 @@ fn put_kind<O: Outlet>(
     put_made(output, kind_line(alloc, &record.rule, &record.cells, limit))
 }
 
-/// Writes the CSV of the tally of the clusters of generation `n` of a record.
 fn put_census<O: Outlet>(
     alloc: Global,
     record: &Record,
@@ -162,7 +159,7 @@ fn put_census<O: Outlet>(
     put_made(output, census_table(alloc, record, n, limit))
 }
 
-/// A valid number of a generation.
+/// `None` if `n` is over 2048.
 fn generation_number(n: u64) -> Option<u32>
     ensures { SomeIff result (n ≤ GENERATION_LIMIT) n }
 {
@@ -172,9 +169,9 @@ fn generation_number(n: u64) -> Option<u32>
     }
 }
 
-/// Reads a pattern file and writes its generation `n` as canonical RLE, without texts and in normal
-/// form. It checks the number before it reads anything; it reads the input to its end, or to byte
-/// 1,048,577.
+/// Reads a pattern file and writes its generation `n` as canonical RLE: without texts, and moved to the origin. It
+/// checks `n` before it reads anything. It reads to the end of the input, or to byte 1,048,577, which shows that the
+/// file is too long.
 pub fn run_generation<I: Inlet, O: Outlet>(
     alloc: Global,
     n: u64,
@@ -183,7 +180,7 @@ pub fn run_generation<I: Inlet, O: Outlet>(
 ) -> Result<(), Stop>
     ensures limit { (result ≡ Err Stop.OutOfLimit) ↔ (GENERATION_LIMIT < n) }
     ensures untouched { GENERATION_LIMIT < n → (input.new ≡ input.old) × (output.new ≡ output.old) }
-    // If the input bytes are known, the output is the text of their generation, and a bad pattern is theirs.
+    // If the input bytes are known, the output is their generation, or the fault is theirs.
     ensures known { n ≤ GENERATION_LIMIT → PutsKnown (generation_text n) (I.to_come input.old) (O.already output.old) (O.already output.new) result }
     ensures takes { TakesFile (I.to_come input.old) (I.to_come input.new) (I.failures input.old) (I.failures input.new) (I.ends input.old) (I.ends input.new) (I.last_take input.new) result }
     ensures once { PutsOnce output.old output.new (O.failures output.old) (O.failures output.new) (O.last_failed output.new) result }
@@ -197,7 +194,7 @@ pub fn run_generation<I: Inlet, O: Outlet>(
     }
 }
 
-/// A valid limit on the period.
+/// `None` unless the limit is from 1 to 2048.
 fn period_limit(limit: u64) -> Option<u32>
     ensures { SomeIff result (IsPeriodLimit limit) limit }
 {
@@ -207,9 +204,8 @@ fn period_limit(limit: u64) -> Option<u32>
     }
 }
 
-/// Reads a pattern file and writes one line with the kind of its pattern, searching for periods up to
-/// the limit, and its code. It checks the limit before it reads anything; it reads the input like
-/// `run_generation`.
+/// Reads a pattern file and writes one line: the kind of its pattern, for periods up to the limit, and its code. It
+/// checks the limit before it reads, and reads like [`run_generation`].
 pub fn run_kind<I: Inlet, O: Outlet>(
     alloc: Global,
     limit: u64,
@@ -218,7 +214,7 @@ pub fn run_kind<I: Inlet, O: Outlet>(
 ) -> Result<(), Stop>
     ensures limit { (result ≡ Err Stop.OutOfLimit) ↔ ¬ IsPeriodLimit limit }
     ensures untouched { ¬ IsPeriodLimit limit → (input.new ≡ input.old) × (output.new ≡ output.old) }
-    // If the input bytes are known, the output is the line of their kind, and a bad pattern is theirs.
+    // If the input bytes are known, the output is the line of their pattern, or the fault is theirs.
     ensures known { IsPeriodLimit limit → PutsKnown (kind_text limit) (I.to_come input.old) (O.already output.old) (O.already output.new) result }
     ensures takes { TakesFile (I.to_come input.old) (I.to_come input.new) (I.failures input.old) (I.failures input.new) (I.ends input.old) (I.ends input.new) (I.last_take input.new) result }
     ensures once { PutsOnce output.old output.new (O.failures output.old) (O.failures output.new) (O.last_failed output.new) result }
@@ -232,16 +228,14 @@ pub fn run_kind<I: Inlet, O: Outlet>(
     }
 }
 
-/// Valid numbers of a census.
 fn census_numbers(n: u64, limit: u64) -> Option<(u32, u32)>
     ensures { MatchOption result (¬ AreCensusNumbers n limit) (λ found. AreCensusNumbers n limit × (found.0 ≡ n) × (found.1 ≡ limit)) }
 {
     Some((generation_number(n)?, period_limit(limit)?))
 }
 
-/// Reads a pattern file and writes the tally of the clusters of its generation `n` as CSV: how many of
-/// them have each code under the limit on the period, and how many have no code. It checks the numbers
-/// before it reads anything; it reads the input like `run_generation`.
+/// Reads a pattern file and writes a census of its generation `n` as CSV: a count for each code, and the number of
+/// clusters without a code. It checks the numbers before it reads, and reads like [`run_generation`].
 pub fn run_census<I: Inlet, O: Outlet>(
     alloc: Global,
     n: u64,
@@ -251,7 +245,7 @@ pub fn run_census<I: Inlet, O: Outlet>(
 ) -> Result<(), Stop>
     ensures limit { (result ≡ Err Stop.OutOfLimit) ↔ ¬ AreCensusNumbers n limit }
     ensures untouched { ¬ AreCensusNumbers n limit → (input.new ≡ input.old) × (output.new ≡ output.old) }
-    // If the input bytes are known, the output is the CSV of their tally, and a bad pattern is theirs.
+    // If the input bytes are known, the output is their census, or the fault is theirs.
     ensures known { AreCensusNumbers n limit → PutsKnown (census_text n limit) (I.to_come input.old) (O.already output.old) (O.already output.new) result }
     ensures takes { TakesFile (I.to_come input.old) (I.to_come input.new) (I.failures input.old) (I.failures input.new) (I.ends input.old) (I.ends input.new) (I.last_take input.new) result }
     ensures once { PutsOnce output.old output.new (O.failures output.old) (O.failures output.new) (O.last_failed output.new) result }
@@ -265,7 +259,6 @@ pub fn run_census<I: Inlet, O: Outlet>(
     }
 }
 
-/// The record of the pattern that a code spells.
 fn object(alloc: Global, rule: &Rule, code: &[u8], limit: u32) -> Result<Record, CodeFault>
     requires limit { IsPeriodLimit limit }
     ensures opened { IfOk result (λ r. (X : Cells) × Spells code.now X × (code_of rule.now X limit ≡ Some code.now) × (r ≡ plain rule.now X)) }
@@ -276,7 +269,7 @@ fn object(alloc: Global, rule: &Rule, code: &[u8], limit: u32) -> Result<Record,
     Ok(into_plain(alloc, *rule, pattern))
 }
 
-/// The stop for a code that can't be opened.
+/// Out of memory is not a fault of the code.
 fn code_stop(fault: CodeFault) -> Stop
     ensures { result ≡ code_stop fault }
 {
@@ -286,8 +279,8 @@ fn code_stop(fault: CodeFault) -> Stop
     }
 }
 
-/// Writes the pattern of a code under a rule and a limit on the period as canonical RLE, without texts
-/// and in normal form. It checks the limit before the rule, and the rule before the code.
+/// Writes the pattern of a code as canonical RLE, without texts and at the origin. It checks the limit, then the rule,
+/// then the code.
 pub fn run_object<O: Outlet>(
     alloc: Global,
     rule: &str,

@@ -1,20 +1,20 @@
-//! Why a job over a file or a code stops early, and the line that is printed for it.
+//! Why a job stops, and the line that is printed for it.
 ghost use Rattle.std.specs.Prelude.{◌≡◌};
 ghost use Rattle.life_jobs.specs.JobStop.{line_of};
 
 use life_code::CodeFault;
 use life_rle::RleFault;
 
-/// Why a job stopped.
+/// Why a job over a pattern file or a code stopped. The process then ends with status 1.
 #[derive(Clone, Copy, Debug, PartialEq, Eq)]
 pub enum Stop {
     /// A number in the arguments is out of its range.
     OutOfLimit,
     /// Standard input is not a valid pattern file.
     BadPattern(RleFault),
-    /// A rule in the arguments is not a rule.
+    /// The rule in the arguments is not supported.
     BadRule,
-    /// A code in the arguments is not a code under the rule and the limit.
+    /// No object has the code in the arguments under this rule and limit.
     BadCode(CodeFault),
     /// Standard input failed.
     Unreadable,
@@ -25,7 +25,8 @@ pub enum Stop {
 }
 
 impl Stop {
-    /// The line for standard error, without its line end; empty to print no line.
+    /// The line for standard error, without its line end. It is empty if standard output failed: then only the status
+    /// reports it.
     pub fn line(&self) -> &'static str
         ensures { result.now ≡ line_of self.now }
     {

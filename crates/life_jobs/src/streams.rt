@@ -1,4 +1,4 @@
-//! What jobs do with their streams: read a pattern file, and write a text.
+//! Reading a pattern file and writing a text, with the stops that they may cause.
 ghost use Rattle.std.specs.Prelude.{◌≡◌, IfOk, IfErr};
 ghost use Rattle.life_rle.specs.Record.{IsInside};
 ghost use Rattle.life_jobs.specs.Streams.{ReadsKnown, IsOfInput, TakesFile, PutsText, PutsOnce};
@@ -7,7 +7,8 @@ use crate::stop::Stop;
 use life_rle::{Inlet, Outlet, ReadFault, Record, RleFault, put_all, read_from};
 use std::alloc::Global;
 
-/// Reads a pattern file, to the end of the input or to byte 1,048,577.
+/// Reads a pattern file. It reads to the end of the input, or to byte 1,048,577, which shows that the file is too
+/// long.
 pub fn read_input<I: Inlet>(alloc: Global, input: &mut I) -> Result<Record, Stop>
     ensures known { ReadsKnown (I.to_come input.old) result }
     ensures stops { IfErr result IsOfInput }
@@ -22,7 +23,7 @@ pub fn read_input<I: Inlet>(alloc: Global, input: &mut I) -> Result<Record, Stop
     }
 }
 
-/// Writes a text, in as many puts as the output needs.
+/// Writes a text, in as many writes as the output needs.
 pub fn put_text<O: Outlet>(output: &mut O, text: &[u8]) -> Result<(), Stop>
     ensures fails { IfErr result (λ stop. stop ≡ Stop.Unwritable) }
     ensures puts { PutsText (O.already output.old) (O.already output.new) text.now result }

@@ -1,4 +1,4 @@
--- Runs of a store, with all that is said of them.
+-- Runs of a store, with every fact of `IsAnswered`.
 use Rattle.std.proofs.Common.{ℕ, List, Option, Result, Ok, Err, OnOk}
 use Rattle.sqlite_trees.specs.declared.store.Store.{Ghosts}
 use Rattle.life_rle.specs.Stream.{Appends, AppendsSome}

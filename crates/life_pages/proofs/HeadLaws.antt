@@ -1,4 +1,4 @@
--- Nothing is lost where a value is cut at its commas, or a path at its parameters; and no path fits two templates.
+-- Nothing is lost when a value is split at its commas or a path at its parameters, and no path fits two templates.
 use Rattle.std.proofs.Common.{◌≡◌, ℕ, zero, suc, ◌+◌, ◌<◌, ◌≤◌, ◌==◌, ◌&&◌, Bool, true, false, not, cond, eq-eqb, List}
 use Rattle.std.proofs.Common.{[], ◌∷◌, ◌++◌, length, slice_index_or, Option, Some, None, option_map, refl, sym, ap, ap₂}
 use Rattle.std.proofs.Common.{subst, ◌∙◌, arith}

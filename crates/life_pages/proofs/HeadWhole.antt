@@ -1,4 +1,4 @@
--- What a whole head says is one thing, whatever follows it.
+-- A complete head has one meaning, whatever follows it.
 use Rattle.std.proofs.Common.{◌≡◌, ℕ, ◌<◌, ◌≤◌, List, ◌++◌, length, drop, map, Option, None, Some, Ok, option_copied}
 use Rattle.std.proofs.Common.{Bor, refl, sym, ◌∙◌, ap, arith, length-append}
 use Rattle.std.proofs.lemmas.List.{length-map}

@@ -1,5 +1,5 @@
--- A stream of replies can be read in one way: a reply's head has no CR within its lines, and it names the length of the
--- body.
+-- A stream of replies can be read in only one way: the lines of a reply's head contain no CR, and the head gives the
+-- length of the body.
 use Rattle.std.proofs.Common.{◌≡◌, ◌≢◌, ℕ, zero, suc, ◌+◌, ◌^◌, ◌<◌, ◌≤◌, ◌==◌, Bool, true, false, if◌then◌else◌, List}
 use Rattle.std.proofs.Common.{[], ◌∷◌, ◌++◌, length, codes, map, refl, sym, ap, ◌∙◌, subst, inl, inr, arith}
 use Rattle.std.proofs.Common.{append_assoc}

@@ -1,4 +1,4 @@
--- The bytes of a reply tell by its status whether it says that something is kept.
+-- The status of a reply shows whether it says that something is stored.
 use Rattle.std.proofs.Common.{◌≡◌, ℕ, ◌==◌, Bool, false, List, [], ◌∷◌, drop, refl, sym, ◌∙◌, ap}
 use Rattle.life_desk.specs.declared.refusal.Refusal.{Refusal}
 use Rattle.life_desk.specs.declared.refusal.Refusal.TheVariants.{Unavailable}

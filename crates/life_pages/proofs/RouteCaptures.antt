@@ -1,4 +1,4 @@
--- What the router's parameters take of a path is what the template captures.
+-- The router's parameters get the same texts of a path as the template captures.
 use Rattle.std.proofs.Common.{◌≡◌, ℕ, zero, suc, ◌+◌, ◌-◌, ◌<◌, ◌≤◌, ◌^◌, ◌==◌, ◌&&◌, ◌⊎◌, inl, inr, Bool, true, false}
 use Rattle.std.proofs.Common.{cond, if◌then◌else◌, ltb, leb, List, [], ◌∷◌, length, take, drop, get_or, Option, None}
 use Rattle.std.proofs.Common.{Some, option_map, refl, sym, ◌∙◌, ap, subst, true≢false, arith}

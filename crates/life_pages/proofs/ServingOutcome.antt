@@ -1,4 +1,4 @@
--- What became of a stream, where serving it ended.
+-- The outcome of serving a stream, for each way in which it ends.
 use Rattle.std.proofs.Common.{◌≡◌, ◌≢◌, ℕ, ◌+◌, ◌-◌, ◌<◌, ◌≤◌, true, List, length, Option, Result, Ok, Err, OnOk, inl}
 use Rattle.std.proofs.Common.{inr, arith}
 use Rattle.life_rle.specs.Stream.{IsEnded, Consumes}

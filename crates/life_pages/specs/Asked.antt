@@ -1,4 +1,4 @@
--- What a good message asks for: a request to the archive, unless no route has its path, or the route wants another
+-- The request that a valid message makes to the archive, unless no route has its path or the route wants another
 -- method.
 use Rattle.std.specs.Prelude.{ℕ, if◌then◌else◌, List, Option, None, Some, Result, Ok, Err}
 use Rattle.std.specs.Str.{bytes_eq}
@@ -9,12 +9,12 @@ use Rattle.life_pages.specs.Head.{Head}
 use Rattle.life_pages.specs.RequestPath.{path_of}
 use Rattle.life_pages.specs.Route.{method_name, Found, route_of}
 
--- the route is validated first, and then the method
+-- a missing route is reported before a wrong method
 abbrev pub asked_at : Option Found → Head → List ℕ → Result Request MessageRefusal
 asked_at None parsed body = Err NoSuchRoute
 asked_at (Some (method, make)) parsed body =
     if bytes_eq parsed.method (method_name method) then Ok (make parsed body) else Err BadMethod
 
--- what a message with this head and this body asks for
+-- the request, or the refusal, of a message with this head and this body
 abbrev pub asked : Head → List ℕ → Result Request MessageRefusal
 asked parsed body = asked_at (route_of (path_of parsed.target)) parsed body

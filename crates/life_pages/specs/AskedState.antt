@@ -1,4 +1,4 @@
--- What the private calls that find a message's request answer.
+-- The results of the private calls that find a message's request.
 use Rattle.std.specs.Prelude.{◌≡◌, Result, Ok, Err}
 use Rattle.life_desk.specs.declared.refusal.Refusal.{Refusal}
 use Rattle.life_desk.specs.declared.request.Request.{Request}
@@ -12,7 +12,7 @@ abbrev pub GivesRequest : Result Request Refusal → Request → Type 0
 GivesRequest (Ok q) request = q ≡ request
 GivesRequest (Err refusal) request = MayRefuse (validated request) refusal
 
--- what is asked, unless it is a request that is refused before it is copied
+-- the request or the refusal of a message, unless the request is refused before it is copied
 abbrev pub IsAsked : Result Request RequestFault → Result Request MessageRefusal → Type 0
 IsAsked (Ok request) read = read ≡ Ok request
 IsAsked (Err (request_fault.Message refusal)) read = read ≡ Err refusal

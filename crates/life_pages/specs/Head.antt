@@ -1,4 +1,4 @@
--- What the head of a request says of its message (RFC 9112, sections 3, 5 and 6; the grammar itself is `httparse`'s).
+-- The meaning of a request's head (RFC 9112). `httparse` defines the grammar.
 use Rattle.std.specs.Prelude.{ℕ, ◌-◌, ◌^◌, ◌==◌, ◌&&◌, ◌||◌, nat_lt, nat_le, min, Bool, true, false, if◌then◌else◌}
 use Rattle.std.specs.Prelude.{List, [], ◌∷◌, length, map, filter, Option, None, Some, option_map, unwrap_or, codes}
 use Rattle.std.specs.List.{list_any, list_all}
@@ -9,11 +9,11 @@ use Rattle.httparse.specs.Ascii.{comma}
 use Rattle.httparse.specs.Grammar.{RequestHead, trim_ows}
 use Rattle.httparse.specs.Spans.{name_and_value}
 
--- a header line: its name, and its value without blanks at the ends
+-- a header line: its name, and its value without spaces and tabs at the ends
 abbrev pub HeaderLine : Type 0
 HeaderLine = List ℕ × List ℕ
 
--- the values of the lines with this name, in any case
+-- the values of the lines with this name, which may be written in upper or lower case
 abbrev pub values_of : List ℕ → List HeaderLine → List (List ℕ)
 values_of name lines = map (λ l. l.1) (filter (λ l. str_eq_ignore_ascii_case l.0 name) lines)
 
@@ -22,11 +22,11 @@ abbrev pub first_of : List (List ℕ) → Option (List ℕ)
 first_of [] = None
 first_of (v ∷ vs) = Some v
 
--- the greatest number that is distinguished from others
+-- the greatest u64: larger numbers are read as this one
 abbrev pub most : ℕ
 most = 2 ^ 64 - 1
 
--- one or more digits, and the number that they write; a greater one than the greatest is read as that
+-- The number that one or more digits write, saturating at `most`. "007" is 7; "" and "-1" are None.
 abbrev pub parsed_number : List ℕ → Option ℕ
 parsed_number text =
     if nat_lt 0 (length text) && list_all is_ascii_digit text then Some (min (digits_value 10 text) most) else None
@@ -39,28 +39,29 @@ abbrev pub within_limit : Option ℕ → Option ℕ
 within_limit None = None
 within_limit (Some n) = if nat_le n body_limit then Some n else None
 
--- the bytes of the body, from the content-length lines: none is 0, and two are bad
+-- the length of the body from the content-length lines: 0 without one, and None if there are two
 abbrev pub body_length : List (List ℕ) → Option ℕ
 body_length [] = Some 0
 body_length (v ∷ []) = within_limit (parsed_number v)
 body_length (v ∷ w ∷ vs) = None
 
--- the parts between commas
+-- puts a byte in front of the first part
 abbrev pub onto_first : ℕ → List (List ℕ) → List (List ℕ)
 onto_first b [] = (b ∷ []) ∷ []
 onto_first b (p ∷ ps) = (b ∷ p) ∷ ps
 
+-- the parts between commas: "a,,b" has the three parts "a", "" and "b"
 abbrev pub parts_between_commas : List ℕ → List (List ℕ)
 parts_between_commas [] = [] ∷ []
 parts_between_commas (b ∷ rest) =
     if b == comma then [] ∷ parts_between_commas rest else onto_first b (parts_between_commas rest)
 
--- one of the parts is the word close
+-- whether one of the parts is the option close, in any case: "keep-alive, Close" has it
 abbrev pub says_close : List ℕ → Bool
 says_close value =
     list_any (λ part. str_eq_ignore_ascii_case (trim_ows part) (codes "close")) (parts_between_commas value)
 
--- what the head of a good message says
+-- the parts of a valid head that the request and the stream depend on
 pub record Head : Type 0 where
   pub method : List ℕ
   pub target : List ℕ
@@ -73,7 +74,7 @@ abbrev pub has_some : List (List ℕ) → Bool
 has_some [] = false
 has_some (v ∷ vs) = true
 
--- what a head with these parts says, for a body of n bytes
+-- a head with these parts, for a body of n bytes; HTTP/1.0, with minor version 0, closes the stream
 abbrev pub head_with : List ℕ → List ℕ → ℕ → List HeaderLine → ℕ → Head
 head_with method target minor lines n = record {
   method = method;
@@ -84,7 +85,7 @@ head_with method target minor lines n = record {
   closes = minor == 0 || list_any says_close (values_of (codes "connection") lines);
 }
 
--- what a head with these parts says, if it is not bad
+-- a head with these parts, if it is valid: a transfer-encoding is not supported
 abbrev pub said_by : List ℕ → List ℕ → ℕ → List HeaderLine → Option Head
 said_by method target minor lines =
     if has_some (values_of (codes "transfer-encoding") lines) then None
@@ -94,7 +95,7 @@ said_by method target minor lines =
 abbrev pub line_limit : ℕ
 line_limit = 32
 
--- what the head says, if it is not bad
+-- the parts of a head that `httparse` read, if it is valid
 abbrev pub head_of : RequestHead → Option Head
 head_of h =
     if nat_lt line_limit (length h.fields) then None

@@ -1,4 +1,4 @@
--- What the private calls that read a head answer.
+-- The results of the private calls that read a head.
 use Rattle.std.specs.Prelude.{◌≡◌, ℕ, ◌≤◌, List, ◌++◌, length, Option, None, Some, drop}
 use Rattle.httparse.specs.Grammar.{RequestHead, ReadsRequest, HasNoRequest, MayBecomeRequest}
 use Rattle.life_pages.specs.declared.head.GoodHead.{GoodHead}
@@ -6,17 +6,17 @@ use Rattle.life_pages.specs.declared.head.HeadRead.{HeadRead}
 use Rattle.life_pages.specs.declared.head.HeadRead.TheVariants.{More, Bad, Whole}
 use Rattle.life_pages.specs.Head.{Head, head_of}
 
--- bytes begin with the head h, which says this, and the rest follows
+-- the bytes begin with a valid head with these parts, and the rest follows it
 pub record BeginsWith (bytes : List ℕ) (parsed : Head) (rest : List ℕ) : Type 0 where
   pub head : RequestHead
   pub reads : ReadsRequest bytes head rest
   pub says : head_of head ≡ Some parsed
 
--- the bytes are no prefix of a good head, whatever follows
+-- the bytes never become a valid head, whatever follows
 abbrev pub NeverBegins : List ℕ → Type 0
 NeverBegins bytes = (more : List ℕ) (parsed : Head) (rest : List ℕ) → ¬ (BeginsWith (bytes ++ more) parsed rest)
 
--- what the parts of a good head are
+-- the parts in the program's `GoodHead`, without its length
 abbrev pub parsed : GoodHead → Head
 parsed g = record {
   method = g.method.now;
@@ -27,13 +27,13 @@ parsed g = record {
   closes = g.closes;
 }
 
--- a reading of the lines of a head that is len bytes long
+-- the result of reading the lines of a head that is len bytes long
 abbrev pub Validates : ℕ → Option Head → HeadRead → Type 0
 Validates len says More = ⊥
 Validates len says Bad = says ≡ None
 Validates len says (Whole g) = (g.len ≡ len) × (says ≡ Some (parsed g))
 
--- a reading of bytes: more are needed, they are not a prefix of a good head, or a good head is at the front
+-- the result of reading bytes: more are needed, they never become a valid head, or they begin with one
 abbrev pub ReadsHead : List ℕ → HeadRead → Type 0
 ReadsHead bytes More = HasNoRequest bytes × MayBecomeRequest bytes
 ReadsHead bytes Bad = NeverBegins bytes

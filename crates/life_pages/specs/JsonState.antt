@@ -1,4 +1,4 @@
--- What the private calls that put the members of an object leave.
+-- The members that the private calls have added to an object.
 use Rattle.std.specs.Prelude.{codes}
 use Rattle.serde_json.specs.Data.{number, string, Members, member, no_members}
 use Rattle.serde_json.specs.Find.{of_integer}
@@ -6,7 +6,7 @@ use Rattle.life_code.specs.declared.kinds.Kind.{Kind}
 use Rattle.life_code.specs.declared.kinds.Kind.TheVariants.{Empty, Still, Oscillator, Ship, Unresolved}
 use Rattle.life_pages.specs.Json.{count}
 
--- the members of a kind but for its code
+-- the members of a kind, except its code
 abbrev pub kind_members : Kind → Members
 kind_members Empty = member (codes "kind") (string (codes "empty")) no_members
 kind_members Unresolved = member (codes "kind") (string (codes "unresolved")) no_members

@@ -11,7 +11,7 @@ use Rattle.life_pages.specs.Head.{Head, head_of}
 use Rattle.life_pages.specs.Asked.{asked}
 use Rattle.life_pages.specs.Reply.{bytes_of, message_refusal_bytes, bad_bytes}
 
--- a message of a stream: a good one with its body, or a bad one
+-- a message of a stream: a valid one with its body, or a bad one, which is the last
 pub data Message : Type 0 where
   good : Head → List ℕ → Message
   bad : Message
@@ -20,11 +20,11 @@ pub data Message : Type 0 where
 abbrev pub head_limit : ℕ
 head_limit = 8192
 
--- only CR and LF bytes are left
+-- whether all bytes are CR and LF
 abbrev pub are_line_breaks : List ℕ → Bool
 are_line_breaks bytes = list_all (λ b. b == carriage_return || b == line_feed) bytes
 
--- a good message is at the front, and the rest follows it
+-- a valid message is at the front, with its complete body, and the rest follows it
 pub record HasMessageInFront (bytes : List ℕ) (parsed : Head) (body rest : List ℕ) : Type 0 where
   pub head : RequestHead
   pub is_head : IsRequestHead head
@@ -33,11 +33,11 @@ pub record HasMessageInFront (bytes : List ℕ) (parsed : Head) (body rest : Lis
   pub bytes_are : bytes ≡ print_request head ++ (body ++ rest)
   pub whole : length body ≡ parsed.body
 
--- no good message is at the front
+-- no valid message is at the front
 abbrev pub HasNone : List ℕ → Type 0
 HasNone bytes = (parsed : Head) (body rest : List ℕ) → ¬ (HasMessageInFront bytes parsed body rest)
 
--- a whole good head is at the front, and its body has not come completely
+-- a complete valid head is at the front, and its body is still incomplete
 pub record HasHeadAlone (bytes : List ℕ) : Type 0 where
   pub head : RequestHead
   pub is_head : IsRequestHead head
@@ -48,15 +48,15 @@ pub record HasHeadAlone (bytes : List ℕ) : Type 0 where
   pub bytes_are : bytes ≡ print_request head ++ rest
   pub part : length rest < parsed.body
 
--- no whole head is at the front, but one may come, and there is room for it
+-- the bytes may still become a head, and are shorter than the limit
 abbrev pub BeginsHead : List ℕ → Type 0
 BeginsHead bytes = HasNoRequest bytes × MayBecomeRequest bytes × (length bytes < head_limit)
 
--- the bytes so far have no fault: they are only CR and LF, a prefix of a head, or a good head without its body
+-- the bytes so far have no fault: they are only CR and LF, a prefix of a head, or a valid head with an incomplete body
 abbrev pub IsAwaited : List ℕ → Type 0
 IsAwaited bytes = (are_line_breaks bytes ≡ true) ⊎ (BeginsHead bytes ⊎ HasHeadAlone bytes)
 
--- the messages of a list of bytes: nothing follows a closing or a bad one
+-- The messages of a list of bytes: a closing or a bad one is the last. CR and LF at the end are not a message.
 abbrev pub Messages : List ℕ → List Message → Type 0
 Messages bytes [] = are_line_breaks bytes ≡ true
 Messages bytes (bad ∷ ms) = (are_line_breaks bytes ≡ false) × HasNone bytes × (ms ≡ [])
@@ -64,7 +64,7 @@ Messages bytes (good parsed body ∷ ms) =
     (rest : List ℕ) × HasMessageInFront bytes parsed body rest
     × (parsed.closes ≡ true → ms ≡ []) × (parsed.closes ≡ false → Messages rest ms)
 
--- these messages are at the front, none of them closes the connection, and the rest follows
+-- these valid messages are at the front, the rest follows them, and they all keep the connection open
 abbrev pub BeginsWithMessages : List ℕ → List Message → List ℕ → Type 0
 BeginsWithMessages bytes [] rest = bytes ≡ rest
 BeginsWithMessages bytes (bad ∷ ms) rest = ⊥
@@ -79,7 +79,7 @@ AreFirstMessages bytes (good parsed body ∷ ms) =
     (rest : List ℕ) × HasMessageInFront bytes parsed body rest
     × (parsed.closes ≡ true → ms ≡ []) × (parsed.closes ≡ false → AreFirstMessages rest ms)
 
--- a run from old over messages puts these bytes and ends at new
+-- a run over messages leads from old to new, and its replies are these bytes
 module _ {D : Type 0} (answers : D → Head → List ℕ → List ℕ → D → Type 0) where
   abbrev pub MessageRun : D → List Message → List ℕ → D → Type 0
   MessageRun old [] bytes new = (bytes ≡ []) × (new ≡ old)
@@ -88,9 +88,9 @@ module _ {D : Type 0} (answers : D → Head → List ℕ → List ℕ → D → 
       (reply : List ℕ) × (later : List ℕ) × (mid : D) × answers old parsed body reply mid × (bytes ≡ reply ++ later)
       × MessageRun mid ms later new
 
--- how a good message is answered, where requests are answered by these replies
+-- the answer to a valid message, if `answers` relates requests and replies
 module _ {D : Type 0} (answers : D → Request → Reply → D → Type 0) where
-  -- a request by the bytes of a reply to it; a page refusal by its bytes, and nothing changes
+  -- a request gets the bytes of a reply to it; a refused message gets the refusal's bytes and changes nothing
   abbrev pub AnswersAsked : D → Result Request MessageRefusal → List ℕ → D → Type 0
   AnswersAsked old (Ok request) bytes new = (reply : Reply) × answers old request reply new × (bytes ≡ bytes_of reply)
   AnswersAsked old (Err refusal) bytes new = (bytes ≡ message_refusal_bytes refusal) × (new ≡ old)

@@ -6,7 +6,7 @@ use Rattle.life_pages.specs.declared.pages_fault.MessageRefusal.TheVariants.{NoS
 use Rattle.life_pages.specs.declared.pages_fault.IoFault.{IoFault}
 use Rattle.life_pages.specs.declared.pages_fault.IoFault.TheVariants.{Read, Write, TooManyReads, Memory}
 
--- after those of the archive
+-- numbers continue after the archive's refusals, which end at 11
 abbrev pub label_of : MessageRefusal → Label
 label_of NoSuchRoute = label 12 (codes "no-such-page")
 label_of BadMethod = label 13 (codes "bad-method")

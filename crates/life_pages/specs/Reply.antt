@@ -1,4 +1,4 @@
--- The bytes of replies (RFC 9112, sections 4 and 5).
+-- The bytes of replies (RFC 9112).
 use Rattle.std.specs.Prelude.{ℕ, List, [], ◌++◌, length, codes, decimal, unwrap_or}
 use Rattle.http.specs.StatusCode.{code_digits, reason_phrase}
 use Rattle.serde_json.specs.Written.{compact_text}
@@ -13,7 +13,7 @@ use Rattle.life_pages.specs.declared.pages_fault.MessageRefusal.TheVariants.{NoS
 use Rattle.life_pages.specs.PagesFault.{label_of}
 use Rattle.life_pages.specs.Json.{kind_data, shown_data, list_data}
 
--- the words after a status
+-- the reason phrase of a status: for 404, "Not Found"
 unfoldable pub phrase : ℕ → List ℕ
 phrase status = unwrap_or (reason_phrase status) []
 
@@ -28,15 +28,15 @@ json = codes "application/json"
 
 -- ---- bodies
 
--- a body of one number
+-- a body of one number, such as {"deposit":7}
 unfoldable pub number_body : List ℕ → ℕ → List ℕ
 number_body name n = codes "{\"" ++ name ++ codes "\":" ++ decimal n ++ codes "}"
 
--- a refusal's name and number, and what else there is to say of it
+-- a refusal's name and number, such as {"error":"full","refusal":10}, and possibly more members
 unfoldable pub refusal_body : List ℕ → ℕ → List ℕ → List ℕ
 refusal_body name n more = codes "{\"error\":\"" ++ name ++ codes "\",\"refusal\":" ++ decimal n ++ more ++ codes "}"
 
--- a refused file has its fault too
+-- the refusal of a pattern file also has the number of the fault in the file
 abbrev pub fault_part : Refusal → List ℕ
 fault_part (BadPattern fault) = codes ",\"rle\":" ++ decimal (fault_number fault)
 fault_part _ = []
@@ -69,7 +69,7 @@ reply_body (replies.Shown shown) = compact_text (shown_data shown)
 abbrev pub bytes_of : Reply → List ℕ
 bytes_of reply = reply_bytes (reply_status reply) (type_of reply) (reply_body reply)
 
--- ---- the replies that the archive is not asked for
+-- ---- the replies that need no archive
 
 abbrev pub page_status : MessageRefusal → ℕ
 page_status NoSuchRoute = 404
@@ -84,6 +84,6 @@ message_refusal_bytes refusal =
 abbrev pub bad_bytes : List ℕ
 bad_bytes = message_refusal_bytes BadMessage
 
--- the reply if memory or the store refused
+-- the reply if an allocation or the store failed
 abbrev pub unavailable_bytes : List ℕ
 unavailable_bytes = reply_bytes 503 json (refusal_body (codes "unavailable") 11 [])

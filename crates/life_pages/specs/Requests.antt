@@ -1,4 +1,4 @@
--- The requests that a stream's messages make, the bytes of their replies, and what these say.
+-- The requests that a stream's messages make, the bytes of their replies, and the headline for them.
 use Rattle.std.specs.Prelude.{◌≡◌, ℕ, List, [], ◌∷◌, ◌++◌, Result, Ok, Err}
 use Rattle.life_desk.specs.declared.request.Request.{Request}
 use Rattle.life_desk.specs.declared.request.Reply.{Reply}
@@ -21,33 +21,32 @@ requests_of [] = []
 requests_of (bad ∷ ms) = requests_of ms
 requests_of (good parsed body ∷ ms) = with_request (asked parsed body) (requests_of ms)
 
--- the bytes of a message's reply, which is the first of these if the message makes a request, and after them those of
--- the others; if there is no reply for a request, none (a run has as many replies as requests)
+-- The bytes of a message's reply, followed by the replies to later messages. A message that makes a request takes the
+-- first of these replies. The case without one never occurs: a run has as many replies as requests.
 abbrev pub with_reply : Result Request MessageRefusal → (List Reply → List ℕ) → List Reply → List ℕ
 with_reply (Ok request) later (r ∷ rs) = bytes_of r ++ later rs
 with_reply (Ok request) later [] = []
 with_reply (Err refusal) later rs = message_refusal_bytes refusal ++ later rs
 
--- the bytes of the replies to messages, where these are the replies to their requests
+-- the bytes of the replies to messages, given the replies to their requests
 abbrev pub reply_bytes_of : List Message → List Reply → List ℕ
 reply_bytes_of [] rs = []
 reply_bytes_of (bad ∷ ms) rs = bad_bytes ++ reply_bytes_of ms rs
 reply_bytes_of (good parsed body ∷ ms) rs = with_reply (asked parsed body) (reply_bytes_of ms) rs
 
--- A run over messages is a run of their requests, and puts the bytes of the replies ..
+-- A run over messages is a run of their requests, and its bytes are the replies ..
 abbrev pub MessagesRunAsRequests : Type 0
 MessagesRunAsRequests =
     (A B : Archive) (ms : List Message) (bytes : List ℕ) → MessageRun (AnswersMessage RequestStep) A ms bytes B
     → (rs : List Reply) × RequestRun A (requests_of ms) rs B × (bytes ≡ reply_bytes_of ms rs)
 
--- .. and each run of their requests is one over the messages.
+-- .. and each run of their requests is a run over the messages.
 abbrev pub RequestsRunAsMessages : Type 0
 RequestsRunAsMessages = (A B : Archive) (ms : List Message) (rs : List Reply) → RequestRun A (requests_of ms) rs B
     → MessageRun (AnswersMessage RequestStep) A ms (reply_bytes_of ms rs) B
 
--- The requests of such messages were answered by a run from A to B, what was put is the bytes of its replies, and what
--- these say holds: generation n is the rule applied n times, codes are one exactly for one object, and a census counts
--- every cluster once.
+-- A run from A to B answered the requests of these messages, the written bytes are its replies, and the headline holds
+-- for them. For example, generation n is the rule applied n times, and a census counts every cluster once.
 pub record ServesTheHeadline (are : List Message → Type 0) (puts : List ℕ → Type 0) (A B : Archive) : Type 0 where
   pub done : List Message
   pub replies : List Reply

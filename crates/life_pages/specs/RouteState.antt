@@ -1,4 +1,4 @@
--- The table of the routes, as the router holds it, and how the program holds what a path asks for.
+-- The routes as the router stores them, and the meaning of a path as the program stores it.
 use Rattle.std.specs.Prelude.{ℕ, List, [], ◌∷◌, map, Result, Ok, Err}
 use Rattle.std.specs.Borrow.{Bor}
 use Rattle.std.specs.Str.{IsUtf8}
@@ -15,11 +15,11 @@ use Rattle.life_pages.specs.declared.route.Asked.{Asked}
 use Rattle.life_pages.specs.declared.route.Asked.TheVariants as asked
 use Rattle.life_pages.specs.Route.{Ask, Found}
 
--- what the router has of a route
+-- the router's value for a route
 abbrev pub Value : Type 0
 Value = Method × Template
 
--- the rows with one more route, if its path reads well
+-- the rows with one more route, if its path is valid
 abbrev pub routed : Result Scan InsertError → Value → RowsOf (RouteOf Value) → RowsOf (RouteOf Value)
 routed (Ok s) value rows = placed ((route_from s value).pattern, route_from s value) rows
 routed (Err e) value rows = rows
@@ -44,7 +44,7 @@ routes_listed = map (λ route. (route.1.now, (route.0, route.2))) ROUTES
 unfoldable pub route_rows : RowsOf (RouteOf Value)
 route_rows = with_routes routes_listed []
 
--- what a path asks for, with the head and the body of its message
+-- the request of a path, with the head and the body of its message
 abbrev pub ask_of : Asked → Ask
 ask_of (asked.Request request) parsed body = request
 ask_of asked.Deposit parsed body = requests.Deposit parsed.member parsed.token body
@@ -59,7 +59,7 @@ abbrev pub texts_of : List (List ℕ × List ℕ) → List (List ℕ)
 texts_of [] = []
 texts_of (p ∷ ps) = p.1 ∷ texts_of ps
 
--- the text of each parameter that is left is UTF-8, as the path is
+-- the texts of the remaining parameters are UTF-8, like the path
 abbrev pub AreTexts : List (List ℕ × List ℕ) → Type 0
 AreTexts [] = Unit {0}
 AreTexts (p ∷ ps) = IsUtf8 p.1 × AreTexts ps

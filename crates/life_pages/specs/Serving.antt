@@ -1,4 +1,4 @@
--- What serving a stream does.
+-- The effects of serving a stream: which messages are answered, and how much is read and written.
 use Rattle.std.specs.Prelude.{◌≡◌, Bool, ℕ, ◌+◌, ◌*◌, ◌≤◌, List, [], ◌∷◌, ◌++◌, length, Option, None, Some, Result, Ok}
 use Rattle.std.specs.Prelude.{Err, OnOk, IfSome}
 use Rattle.life_rle.specs.declared.stream.Inlet as inlet
@@ -11,11 +11,11 @@ use Rattle.life_pages.specs.Message.{IsAwaited}
 use Rattle.life_pages.specs.declared.pages_fault.IoFault.{IoFault}
 use Rattle.life_pages.specs.declared.pages_fault.IoFault.TheVariants.{Read, Write, TooManyReads, Memory}
 
--- the most takes of one call
+-- the most reads of one call
 abbrev pub most_takes : ℕ
 most_takes = 1048576
 
--- the most bytes of one
+-- the most bytes of one read
 abbrev pub most_taken : ℕ
 most_taken = 4096
 
@@ -23,12 +23,12 @@ most_taken = 4096
 abbrev pub AreAllOf : Option (List ℕ) → List Message → Type 0
 AreAllOf stream ms = IfSome stream (λ bytes. Messages bytes ms)
 
--- the first of them; the last one may close the connection or be bad
+-- the first messages that were sent; the last one may close the connection or be bad
 abbrev pub AreFirstOfStream : Option (List ℕ) → List Message → Type 0
 AreFirstOfStream stream ms = IfSome stream (λ bytes. AreFirstMessages bytes ms)
 
 module _ {D : Type 0} (answers : D → Head → List ℕ → List ℕ → D → Type 0) where
-  -- messages were answered: the replies to all but the last were put whole, and of the last a beginning
+  -- messages were answered: all replies but the last were written completely, and a prefix of the last one
   pub record LastReplyCutShort (begins : List Message → Type 0) (old new : D)
       (before after : Option (List ℕ)) : Type 0 where
     pub done : List Message
@@ -43,7 +43,7 @@ module _ {D : Type 0} (answers : D → Head → List ℕ → List ℕ → D → 
     pub put : Appends before whole bytes
     pub some : AppendsSome whole after reply
 
-  -- messages were answered, and of the bytes of their replies so much was put
+  -- messages were answered, and as much of their replies was written as `puts` says
   pub record ServedMessages (are : List Message → Type 0) (puts : List ℕ → Type 0) (old new : D) : Type 0 where
     pub done : List Message
     pub bytes : List ℕ
@@ -51,23 +51,23 @@ module _ {D : Type 0} (answers : D → Head → List ℕ → List ℕ → D → 
     pub run : MessageRun answers old done bytes new
     pub put : puts bytes
 
-  -- the first messages of a stream were answered, and a prefix of their replies was put
+  -- the first messages of a stream were answered, and a prefix of their replies was written
   abbrev pub RepliesCutShort : Option (List ℕ) → D → D → Option (List ℕ) → Option (List ℕ) → Type 0
   RepliesCutShort stream old new before after =
       ServedMessages (AreFirstOfStream stream) (AppendsSome before after) old new
 
-  -- all the messages of a stream were answered, and their replies were put
+  -- all the messages of a stream were answered, and their replies were written completely
   abbrev pub Served : Option (List ℕ) → D → D → Option (List ℕ) → Option (List ℕ) → Type 0
   Served stream old new before after = ServedMessages (AreAllOf stream) (Appends before after) old new
 
--- the messages are at the front of a stream of known bytes, before what is held and what is left
+-- a stream of known bytes begins with these messages, followed by the held bytes and the bytes not read yet
 abbrev pub StreamBeginsWithMessages : Option (List ℕ) → List Message → List ℕ → Option (List ℕ) → Type 0
 StreamBeginsWithMessages None done held left = Unit {0}
 StreamBeginsWithMessages (Some stream) done held None = ⊥
 StreamBeginsWithMessages (Some stream) done held (Some left) = BeginsWithMessages stream done (held ++ left)
 
--- Without the last take, of this many bytes and at most 4,096, the bytes taken held no whole message that is not one of
--- the first of these; and that is not all of them.
+-- Before the last read, of this many bytes and at most 4,096, only messages from a proper prefix of these had been read
+-- completely.
 pub record WholeBefore (stream left : Option (List ℕ)) (last : ℕ) (ms : List Message) : Type 0 where
   pub front : List Message
   pub next : Message
@@ -81,13 +81,12 @@ pub record WholeBefore (stream left : Option (List ℕ)) (last : ℕ) (ms : List
   pub taken : Consumes before left piece
   pub short : (length piece ≤ 4096) × (length piece ≤ last)
 
--- the first messages of a stream, all but the last of which were answered before the last take, if they had come
--- completely
+-- the first messages of a stream; before the last read, at least the last of them was not complete
 abbrev pub AreFirstUpTo : Option (List ℕ) → Option (List ℕ) → ℕ → List Message → Type 0
 AreFirstUpTo stream left last ms = AreFirstOfStream stream ms × WholeBefore stream left last ms
 
 module _ {D : Type 0} (answers : D → Head → List ℕ → List ℕ → D → Type 0) where
-  -- all the messages that were taken whole were answered, good or bad, and their replies were put
+  -- all the messages that were read completely were answered, and their replies were written
   pub record ServedSoFar (stream left : Option (List ℕ)) (old new : D) (before after : Option (List ℕ)) : Type 0 where
     pub done : List Message
     pub bytes : List ℕ
@@ -98,7 +97,7 @@ module _ {D : Type 0} (answers : D → Head → List ℕ → List ℕ → D → 
     pub run : MessageRun answers old done bytes new
     pub put : Appends before after bytes
 
--- known bytes grew at their end: what was there before is a prefix of what is there now
+-- known bytes grew at their end: the bytes from before are a prefix of them
 abbrev pub Grows : Option (List ℕ) → Option (List ℕ) → Type 0
 Grows old new = (more : List ℕ) × Appends old new more
 
@@ -106,7 +105,7 @@ Grows old new = (more : List ℕ) × Appends old new more
 abbrev pub ConsumesAtLeast : ℕ → Option (List ℕ) → Option (List ℕ) → Type 0
 ConsumesAtLeast least old new = (bytes : List ℕ) × (least ≤ length bytes) × Consumes old new bytes
 
--- a take that failed is answered at once, and nothing else is
+-- a failed read ends the call with Read, and any other result means that no read failed
 abbrev pub ReportsTakeFailures : ℕ → ℕ → Result (Unit {0}) IoFault → Type 0
 ReportsTakeFailures old new (Ok u) = new ≡ old
 ReportsTakeFailures old new (Err Read) = new ≡ incremented old
@@ -114,7 +113,7 @@ ReportsTakeFailures old new (Err Write) = new ≡ old
 ReportsTakeFailures old new (Err TooManyReads) = new ≡ old
 ReportsTakeFailures old new (Err Memory) = new ≡ old
 
--- a put that failed was the last and is answered Write, and no other put failed
+-- a failed write was the last one and ends the call with Write, and any other result means that no write failed
 abbrev pub ReportsPutFailures : ℕ → ℕ → Bool → Result (Unit {0}) IoFault → Type 0
 ReportsPutFailures old new last (Ok u) = new ≡ old
 ReportsPutFailures old new last (Err Read) = new ≡ old
@@ -124,39 +123,38 @@ ReportsPutFailures old new last (Err Memory) = new ≡ old
 
 -- ---- a call
 
--- What a call does to what answers the messages. `by P` says that this went from what it was before the call to what it
--- is after it as P says: a desk that was old and is new by λ P. P old new, and an archive in a database by `ByArchive`
--- or `InMemory`.
+-- The effect of a call on the desk or archive that answers. `by P` says that P relates its states before and after the
+-- call. For a desk, `by` is λ P. P old new; for an archive in a database, it is `ByArchive` or `InMemory`.
 pub record IsServed {D I O : Type 0} (answers : D → Head → List ℕ → List ℕ → D → Type 0)
     (by : (D → D → Type 0) → Type 0) (i : inlet.Ghosts I) (o : outlet.Ghosts O) (input rest : I)
     (output sent : O) (result : Result (Unit {0}) IoFault) : Type 0 where
-  -- Ok: all messages of the stream were answered, and what was put is their replies.
+  -- Ok: all messages of the stream were answered, and exactly their replies were written.
   pub known : OnOk result (by (λ A B. Served answers (i.to_come input) A B (o.already output) (o.already sent)))
-  -- Whatever the answer: the first of them were answered, and no more than their replies was put.
+  -- Any result: the first messages were answered, and a prefix of their replies was written.
   pub some : by (λ A B. RepliesCutShort answers (i.to_come input) A B (o.already output) (o.already sent))
-  -- A failed take: what was taken whole was answered, and the replies were put whole.
+  -- A failed read: every message that was read completely was answered, and the replies were written completely.
   pub on_read_failure : result ≡ Err Read
       → by (λ A B. ServedSoFar answers (i.to_come input) (i.to_come rest) A B (o.already output) (o.already sent))
-  -- The same if one more take would be too many.
+  -- The same if one more read would be too many.
   pub on_too_many_reads : result ≡ Err TooManyReads
       → by (λ A B. ServedSoFar answers (i.to_come input) (i.to_come rest) A B (o.already output) (o.already sent))
-  -- A failed put: of the last reply a beginning was put, and those before it whole.
+  -- A failed write: a prefix of the last reply was written, and the replies before it completely.
   pub on_write_failure : result ≡ Err Write → by (λ A B. LastReplyCutShort answers
       (AreFirstUpTo (i.to_come input) (i.to_come rest) (i.last_take rest)) A B (o.already output) (o.already sent))
 
--- What a call does to its streams, whatever answers the messages.
+-- The effect of a call on its streams, whatever answers the messages.
 pub record UsesStreams {I O : Type 0} (i : inlet.Ghosts I) (o : outlet.Ghosts O) (input rest : I)
     (output sent : O) (result : Result (Unit {0}) IoFault) : Type 0 where
-  -- Too many takes: at least 1,048,576 known bytes were taken.
+  -- Too many reads: at least 1,048,576 known bytes were read, since each read gave at least one.
   pub many : result ≡ Err TooManyReads → ConsumesAtLeast most_takes (i.to_come input) (i.to_come rest)
-  -- What is put only grows: what was put before the call is a prefix of what is put after it.
+  -- Output is only appended: the bytes written before the call are a prefix of those after it.
   pub grows : Grows (o.already output) (o.already sent)
-  -- At most 1,048,576 takes are made, and at most 4,096 times as many bytes are taken.
+  -- At most 1,048,576 reads are made, of at most 4,096 bytes each.
   pub takes : i.takes rest ≤ i.takes input + most_takes
   pub most : ConsumesUpTo (most_takes * most_taken) (i.to_come input) (i.to_come rest)
-  -- Nothing is taken after the end: it is found once at most, by the last take.
+  -- There is no read after the end: only the last read may find it.
   pub ended : EndsLast (i.ends input) (i.ends rest) (i.last_take rest)
-  -- A failed take is answered at once, a failed put is answered, and nothing else is.
+  -- A failed read or write is reported, and only then is one reported.
   pub on_failed_take : ReportsTakeFailures (i.failures input) (i.failures rest) result
   pub puts : ReportsPutFailures (o.failures output) (o.failures sent) (o.last_failed sent) result
   pub read : result ≡ Err Read → FailedBetween (i.failures input) (i.failures rest)

@@ -1,4 +1,4 @@
-//! The reply to a good message.
+//! The reply to a message that is valid HTTP.
 ghost use Rattle.std.specs.Prelude.{◌≡◌, ◌≤◌, vec_capacity, Result, Ok, Err, IfOk};
 ghost use Rattle.life_desk.specs.declared.request.Request.{Request};
 ghost use Rattle.life_pages.specs.declared.pages_fault.MessageRefusal.{MessageRefusal};
@@ -17,7 +17,7 @@ use life_desk::Request;
 use matchit::Router;
 use std::alloc::{AllocError, Global};
 
-/// Where a reply is written, and the body of a short one before it.
+/// Buffers for a reply, and for a short body, which is written before its reply so that its length is known.
 #[derive(Drop)]
 pub(crate) struct ReplyBuffers {
     pub(crate) reply: Vec<u8>,
@@ -25,7 +25,7 @@ pub(crate) struct ReplyBuffers {
 }
 
 impl ReplyBuffers {
-    /// Empty buffers with room for each short reply.
+    /// Empty buffers with room for any short reply, allocated before the first read.
     pub(crate) fn with_room(alloc: Global) -> Result<ReplyBuffers, AllocError>
         ensures { IfOk result (λ d. HasRoom d) }
     {
@@ -35,7 +35,7 @@ impl ReplyBuffers {
     }
 }
 
-/// Asks the archive, and puts the reply into the buffers. Room for acknowledgements was allocated before.
+/// Answers a request and writes the reply into the buffers. Acknowledgements need no allocation: their room exists.
 fn answer_request<D: Desk>(
     alloc: Global,
     desk: &mut D,
@@ -50,7 +50,7 @@ fn answer_request<D: Desk>(
     write_reply(alloc, &mut buffers.reply, &mut buffers.body, &reply);
 }
 
-/// Writes the refusal of a message for which the archive is not asked.
+/// Writes a refusal that needs no query to the archive.
 fn refuse<D: Desk>(desk: &D, fault: RequestFault, buffers: &mut ReplyBuffers)
     requires room { HasRoom buffers.old }
     ensures answered { (read : Result Request MessageRefusal) → IsAsked (Err fault) read → AnswersAsked D.answers desk.now read buffers.new.reply.items desk.now }

@@ -1,4 +1,4 @@
-//! The request of a good message.
+//! The request that a valid HTTP message makes.
 ghost use Rattle.std.specs.Prelude.{◌≡◌};
 ghost use Rattle.life_pages.specs.HeadState.{parsed};
 ghost use Rattle.life_pages.specs.RouteState.{route_rows, ask_of};
@@ -63,8 +63,7 @@ fn total_request(
     })
 }
 
-/// The request of a message whose path asks for this. One that is refused for its own fields is refused before anything is
-/// copied.
+/// The request of a message whose path has this meaning. Its own fields are validated before anything is copied.
 fn request_of(
     alloc: Global,
     wanted: Asked<'_>,
@@ -85,16 +84,16 @@ fn request_of(
     }
 }
 
-/// Why the archive is not asked about a message.
+/// Why a message is refused before the archive is queried.
 #[derive(Clone, Copy)]
 pub(crate) enum RequestFault {
     /// The message is not a request.
     Message(MessageRefusal),
-    /// The request is refused: for its own fields, or because there is no memory to copy them.
+    /// The request's own fields are invalid, or there is no memory to copy them.
     Request(Refusal),
 }
 
-/// The request of a good message: its route is validated first, and then its method.
+/// The request of a valid message. A missing route is reported before a wrong method.
 pub(crate) fn asked(
     alloc: Global,
     routes: &Router<(Method, Template)>,

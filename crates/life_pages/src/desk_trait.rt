@@ -1,4 +1,4 @@
-//! The trait of what answers requests.
+//! The trait that serving needs of an archive.
 ghost use Rattle.std.specs.Prelude.{◌≡◌, true};
 ghost use Rattle.life_desk.specs.declared.request.Request.{Request};
 ghost use Rattle.life_desk.specs.declared.request.Reply.{Reply};
@@ -13,7 +13,7 @@ use std::alloc::Global;
 
 /// Answers requests. In the program it is an archive; serving depends only on this trait.
 pub(crate) trait Desk {
-    // The replies that may be given to a request, and the state after each.
+    // The possible replies to a request, and the state after each.
     ghost answers: { Self → Request → Reply → Self → Type 0 };
 
     /// Answers a request.
@@ -22,8 +22,8 @@ pub(crate) trait Desk {
         // A read may be answered `unavailable` instead, since it changes no archive.
         ensures may_be_unavailable { is_shown result ≡ true → answers self.old request (replies.Refused refusals.Unavailable) self.new };
 
-    /// A request may be refused unasked: for its own fields or, if these are valid, as unavailable. A law: calling it does
-    /// nothing.
+    /// A request may be refused before `answer` is called: for its own fields or, if these are valid, as `unavailable`.
+    /// A law: calling it does nothing.
     fn law_of_refusals(&self)
         ensures { (request : Request) (refusal : Refusal) → MayRefuse (validated request) refusal → answers self.now request (replies.Refused refusal) self.now };
 }

@@ -1,4 +1,4 @@
-//! The head of a message.
+//! The head of an HTTP request: its request line and header lines, read with `httparse`.
 ghost use Rattle.std.specs.Prelude.{◌≡◌, ◌≤◌, ◌<◌, ◌^◌, ◌==◌, nat_lt, length, map, option_map, reverse, codes, true, min, not};
 ghost use Rattle.std.specs.List.{list_any, list_all, prefix_len};
 ghost use Rattle.std.specs.Char.{is_ascii_digit, digit_value};
@@ -28,7 +28,7 @@ fn digit_of(byte: u8) -> u64
     u64::from(byte - b'0')
 }
 
-/// The digits' value, at most the greatest number.
+/// The digits' value; larger numbers saturate at the greatest `u64`.
 fn value_of(text: &[u8]) -> u64
     requires { list_all is_ascii_digit text.now ≡ true }
     ensures { result ≡ min (digits_value 10 text.now) most }
@@ -40,7 +40,7 @@ fn value_of(text: &[u8]) -> u64
     n
 }
 
-/// The number that one or more digits write, or the greatest that there is.
+/// The number that one or more digits write, saturating at the greatest `u64`; `None` for other texts.
 pub(crate) fn number(text: &[u8]) -> Option<u64>
     ensures { result ≡ parsed_number text.now }
 {
@@ -105,14 +105,14 @@ pub(crate) fn len_before(bytes: &[u8], byte: u8) -> usize
     bytes.len()
 }
 
-/// Whether a part is the word `close`.
+/// Whether one part of a `connection` header is the option `close`, in any case.
 fn is_close(part: &[u8]) -> bool
     ensures { result ≡ str_eq_ignore_ascii_case (trim_ows part.now) (codes "close") }
 {
     trimmed(part).eq_ignore_ascii_case(b"close")
 }
 
-/// Whether a value has the part `close`.
+/// Whether the value of a `connection` header, a list with commas, has the option `close`.
 pub(crate) fn asks_close(value: &[u8]) -> bool
     ensures { result ≡ says_close value.now }
 {
@@ -129,14 +129,14 @@ pub(crate) fn asks_close(value: &[u8]) -> bool
     }
 }
 
-/// Whether a line has this name.
+/// Whether a header line has this name, in any case.
 fn is_named(line: &Header<'_>, name: &str) -> bool
     ensures { result ≡ str_eq_ignore_ascii_case line.now.name.now name.now }
 {
     line.name.eq_ignore_ascii_case(name)
 }
 
-/// The first value of a name.
+/// The value of the first header line with the name.
 pub(crate) fn first_value<'b>(lines: &[Header<'b>], name: &str) -> Option<&'b [u8]>
     ensures { option_map (λ v. v.now) result ≡ first_of (values_of name.now (map header_parts lines.now)) }
 {
@@ -148,14 +148,14 @@ pub(crate) fn first_value<'b>(lines: &[Header<'b>], name: &str) -> Option<&'b [u
     None
 }
 
-/// Whether a name has a value.
+/// Whether a header line has the name.
 pub(crate) fn has_name(lines: &[Header<'_>], name: &str) -> bool
     ensures { result ≡ has_some (values_of name.now (map header_parts lines.now)) }
 {
     first_value(lines, name).is_some()
 }
 
-/// The parts of a head that is not bad.
+/// The parts of a valid head that requests depend on. A missing member or token is empty.
 #[derive(Drop)]
 pub(crate) struct GoodHead<'b> {
     /// Where the body begins.
@@ -164,13 +164,13 @@ pub(crate) struct GoodHead<'b> {
     pub target: &'b str,
     pub member: &'b [u8],
     pub token: &'b [u8],
-    /// How many bytes the body has.
+    /// How many bytes the body has, at most 1 MiB.
     pub body: u64,
-    /// Whether the stream ends after the message.
+    /// Whether the stream ends after the message: HTTP/1.0, or `connection: close`.
     pub closes: bool,
 }
 
-/// The result of reading the front of some bytes.
+/// The result of reading a head: it is incomplete, invalid whatever follows, or complete.
 #[derive(Drop)]
 pub(crate) enum HeadRead<'b> {
     More,
@@ -178,7 +178,7 @@ pub(crate) enum HeadRead<'b> {
     Whole(GoodHead<'b>),
 }
 
-/// How many bytes the body has, by the lines.
+/// The body's length from the `content-length` line: 0 without one, `None` for two, an invalid one, or one over 1 MiB.
 fn body_bytes(lines: &[Header<'_>]) -> Option<u64>
     ensures { result ≡ body_length (values_of (codes "content-length") (map header_parts lines.now)) }
 {
@@ -197,7 +197,7 @@ fn body_bytes(lines: &[Header<'_>]) -> Option<u64>
     number(value).filter(|n| *n <= 1_048_576)
 }
 
-/// Whether a line asks for the end of the stream.
+/// Whether a `connection` line has the option `close`.
 fn says_to_close(lines: &[Header<'_>]) -> bool
     ensures { result ≡ list_any says_close (values_of (codes "connection") (map header_parts lines.now)) }
 {
@@ -209,7 +209,7 @@ fn says_to_close(lines: &[Header<'_>]) -> bool
     false
 }
 
-/// Reads the parts of a head.
+/// Takes the parts from a head. A `transfer-encoding` is bad, since only `content-length` gives a body's length.
 fn validate<'b>(
     len: usize,
     method: &'b str,
@@ -236,14 +236,14 @@ fn validate<'b>(
     })
 }
 
-/// Whether this many lines are more than a head may have.
+/// Whether there are more header lines than a head may have.
 fn are_too_many(lines: usize) -> bool
     ensures { result ≡ nat_lt line_limit lines }
 {
     lines > LINE_LIMIT
 }
 
-/// What the bytes so far begin with.
+/// Reads a head at the front of the bytes received so far.
 pub(crate) fn read_head(bytes: &[u8]) -> HeadRead<'_>
     ensures { ReadsHead bytes.now result }
 {

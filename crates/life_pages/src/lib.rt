@@ -1,4 +1,4 @@
-//! Messages of HTTP over any stream of bytes: requests to the archive, and its replies.
+//! HTTP/1.1 over any stream of bytes: reads requests to the archive, and writes its replies.
 #![tactic(auto)]
 
 mod answer;

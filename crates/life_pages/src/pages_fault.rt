@@ -1,18 +1,18 @@
-//! Why a message is refused before the archive is asked, and why serving a stream stops.
+//! Refusals of messages that never reach the archive, and the errors that stop serving a stream.
 ghost use Rattle.std.specs.Prelude.{◌≡◌};
 
-/// Why a message is refused before the archive is asked.
+/// Why a message is refused before the archive is queried. Numbers continue after `life_desk::Refusal`.
 #[derive(Clone, Copy, Debug, PartialEq, Eq)]
 pub enum MessageRefusal {
     /// No route has the path.
     NoSuchRoute = 12,
-    /// The route has another method.
+    /// A route has the path, but wants another method.
     BadMethod = 13,
-    /// The bytes are not a good message.
+    /// The bytes are not a valid HTTP message within the limits. The stream ends after this refusal.
     BadMessage = 14,
 }
 
-/// All of them, in the order of their numbers.
+/// All message refusals, in the order of their numbers.
 pub const MESSAGE_REFUSALS: [MessageRefusal; 3] = [
     MessageRefusal::NoSuchRoute,
     MessageRefusal::BadMethod,
@@ -23,14 +23,14 @@ impl MessageRefusal {
     ghost use Rattle.life_pages.specs.PagesFault.{label_of};
     ghost use Rattle.life_pages.specs.Reply.{page_status};
 
-    /// The refusal's number. Those below it are the archive's.
+    /// The number in replies (docs/API.md). Smaller numbers belong to the archive's refusals.
     pub fn number(self) -> u8
         ensures { result ≡ (label_of self).number }
     {
         self as u8
     }
 
-    /// The name of the refusal, in lower case.
+    /// The name in replies (docs/API.md).
     pub fn name(self) -> &'static str
         ensures { result.now ≡ (label_of self).name }
     {
@@ -41,7 +41,7 @@ impl MessageRefusal {
         }
     }
 
-    /// The status of the reply.
+    /// The HTTP status of the reply.
     pub fn status(self) -> u16
         ensures { result ≡ page_status self }
     {
@@ -56,13 +56,13 @@ impl MessageRefusal {
 /// Why serving a stream stopped before its end.
 #[derive(Clone, Copy, Debug, PartialEq, Eq)]
 pub enum IoFault {
-    /// A take failed.
+    /// Reading from the stream failed.
     Read = 1,
-    /// A put failed.
+    /// Writing to the stream failed.
     Write = 2,
-    /// A take past the limit would be needed.
+    /// The call would need more reads than its limit.
     TooManyReads = 3,
-    /// Out of memory before the first take.
+    /// Out of memory before the first read.
     Memory = 4,
 }
 

@@ -13,13 +13,13 @@ use itoa::Buffer;
 use life_desk::{Refusal, Reply};
 use std::alloc::{AllocError, Global};
 
-/// Room for every reply whose length does not depend on what it shows.
+/// Room for every short reply: its length does not depend on the stored contents.
 pub(crate) const REPLY_ROOM: usize = 512;
 
-/// Room for its body.
+/// Room for the body of a short reply.
 pub(crate) const BODY_ROOM: usize = 128;
 
-/// Room for what comes before a body.
+/// Room for the status line and the header lines before a body.
 const FRONT_ROOM: usize = 160;
 
 static NO_SUCH_PAGE: &[u8] =
@@ -34,7 +34,7 @@ static BAD_MESSAGE: &[u8] =
 static UNAVAILABLE: &[u8] =
     b"HTTP/1.1 503 Service Unavailable\r\ncontent-type: application/json\r\ncontent-length: 36\r\n\r\n{\"error\":\"unavailable\",\"refusal\":11}";
 
-/// The reply to a message that the archive is not asked about.
+/// The complete reply to a message that never reaches the archive. It is a constant, so it needs no memory.
 pub(crate) fn page_reply(refusal: MessageRefusal) -> &'static [u8]
     ensures bytes { result.now ≡ message_refusal_bytes refusal }
     ensures short { length result.now ≤ 160 }
@@ -46,7 +46,7 @@ pub(crate) fn page_reply(refusal: MessageRefusal) -> &'static [u8]
     }
 }
 
-/// The reply if memory or the store failed.
+/// The reply if an allocation or the store failed. It is a constant, so it needs no memory.
 pub(crate) fn unavailable() -> &'static [u8]
     ensures bytes { result.now ≡ unavailable_bytes }
     ensures short { length result.now ≤ 160 }
@@ -105,7 +105,7 @@ fn add_number(out: &mut Vec<u8>, name: &str, n: u64)
     add(out, b"}");
 }
 
-/// Adds the number of a refused file's fault.
+/// Adds the number of the fault in a refused pattern file; nothing for other refusals.
 fn add_fault(out: &mut Vec<u8>, refusal: &Refusal)
     requires { vec_len out.old + length (fault_part refusal.now) ≤ vec_capacity out.old }
     ensures items { out.new.items ≡ out.old.items ++ fault_part refusal.now }
@@ -140,7 +140,7 @@ fn status_of(refusal: &Refusal) -> StatusCode
     StatusCode::from_u16(refusal.status()).unwrap()
 }
 
-/// Writes a reply of one number, which is short.
+/// Writes a reply whose body is one number. It fits into the reserved room.
 fn write_number(out: &mut Vec<u8>, body: &mut Vec<u8>, status: StatusCode, name: &str, n: u64)
     requires room { REPLY_ROOM ≤ vec_capacity out.old }
     requires body_room { BODY_ROOM ≤ vec_capacity body.old }
@@ -156,7 +156,7 @@ fn write_number(out: &mut Vec<u8>, body: &mut Vec<u8>, status: StatusCode, name:
     add_reply(out, status, "application/json", body);
 }
 
-/// Writes a refusal of the archive, which is short.
+/// Writes a refusal of the archive. It fits into the reserved room.
 pub(crate) fn write_refusal(out: &mut Vec<u8>, body: &mut Vec<u8>, refusal: &Refusal)
     requires room { REPLY_ROOM ≤ vec_capacity out.old }
     requires body_room { BODY_ROOM ≤ vec_capacity body.old }
@@ -200,7 +200,7 @@ fn write_unavailable(out: &mut Vec<u8>)
     add(out, unavailable());
 }
 
-/// Writes why a message is refused before the archive is asked.
+/// Writes the refusal of a message that never reaches the archive.
 pub(crate) fn write_page(out: &mut Vec<u8>, refusal: MessageRefusal)
     requires { REPLY_ROOM ≤ vec_capacity out.old }
     ensures bytes { out.new.items ≡ message_refusal_bytes refusal }
@@ -218,7 +218,7 @@ fn write_json(out: &mut Vec<u8>, body: Vec<u8>) -> Result<(), AllocError>
     write_body(out, "application/json", &body)
 }
 
-/// Writes a reply whose length depends on what it shows.
+/// Writes a reply whose length depends on the stored contents, which needs an allocation.
 fn write_long(alloc: Global, out: &mut Vec<u8>, reply: &Reply) -> Result<(), AllocError>
     requires { is_shown reply.now ≡ true }
     ensures ok { OnOk result (out.new.items ≡ bytes_of reply.now) }
@@ -234,8 +234,8 @@ fn write_long(alloc: Global, out: &mut Vec<u8>, reply: &Reply) -> Result<(), All
     }
 }
 
-/// Writes a reply. A short one needs no allocation; a long one may be replaced by the reply for out of
-/// memory.
+/// Writes a reply. A short one needs no allocation. If memory runs out for a long one, `unavailable` is written
+/// instead.
 pub(crate) fn write_reply(alloc: Global, out: &mut Vec<u8>, body: &mut Vec<u8>, reply: &Reply)
     requires room { REPLY_ROOM ≤ vec_capacity out.old }
     requires body_room { BODY_ROOM ≤ vec_capacity body.old }

@@ -29,34 +29,35 @@ impl<S: Alter> Desk for Archive<S> {
     fn law_of_refusals(&self) {}
 }
 
-/// Answers the messages of a stream, one after the other, each once it is complete, until the stream ends, a message
-/// asks to close it, or a message is bad. At most 1,048,576 takes are made. Bytes after a closing or a bad message
-/// may have been taken.
+/// Answers the messages of a stream, each once it is complete, until the stream ends, a message asks to close it, or a
+/// message is bad. At most 1,048,576 reads are made. Bytes after a closing or a bad message may have been read.
 ///
-/// After an error the archive is the one after the messages that were answered: all that were taken whole, unless a put
-/// failed; then the last reply may have been put in part.
+/// After an error the archive has answered every message that was read completely. Only if a write failed may later
+/// ones be unanswered, and the last reply may be cut short.
 pub fn serve<S: Alter, I: Inlet, O: Outlet>(
     alloc: Global,
     archive: &mut Archive<S>,
     input: &mut I,
     output: &mut O,
 ) -> Result<(), IoFault>
-    // By the result: over which messages the archive went through a run, and how much of the run's bytes was put.
+    // Depending on the result: which messages the archive answered in a run, and how much of the replies was written.
     ensures served { IsServed (AnswersMessage RequestStep) (λ P. ByArchive S.Store P archive.old archive.new) I.Inlet O.Outlet input.old input.new output.old output.new result }
-    // Of one list of messages and one of their replies' bytes: the store answered the first messages of the stream, each archive that it represented went through a
-    // run over them, a request with an invalid field gets that refusal, whatever the database does, and a crash during the call leaves
-    // the archive after a prefix of them or one more; and a prefix of the bytes was put.
+    // For one list of messages, the first of the stream: the store answered them, each archive that it represented went
+    // through a run over them, and a prefix of the replies was written. A request with an invalid field gets its
+    // refusal, whatever the database does. A crash during the call leaves the archive after a prefix of them, or after
+    // one more.
     ensures steps { IsAnswered S.Store (AreFirstOfStream (I.to_come input.old)) (AppendsSome (O.already output.old) (O.already output.new)) archive.old archive.new }
-    // On Ok they are all messages, and all bytes were put.
+    // On Ok these are all messages, and all replies were written.
     ensures whole { OnOk result (IsAnswered S.Store (AreAllOf (I.to_come input.old)) (Appends (O.already output.old) (O.already output.new)) archive.old archive.new) }
-    // What was answered says of sets of live cells what it should, of all messages or, whatever the answer, of the first of them.
+    // The headline about sets of live cells holds for the replies: on Ok for all messages, otherwise for the first of
+    // them.
     ensures headline { OnOk result (ByArchive S.Store (ServesTheHeadline (AreAllOf (I.to_come input.old)) (Appends (O.already output.old) (O.already output.new))) archive.old archive.new) }
     ensures headlines { ByArchive S.Store (ServesTheHeadline (AreFirstOfStream (I.to_come input.old)) (AppendsSome (O.already output.old) (O.already output.new))) archive.old archive.new }
-    // Whatever the database does: a request with an invalid field (member, token, limits, rule) gets that refusal, and
-    // unavailable never comes in its place; and each other message of the first of them by the bytes of its refusal or of a reply.
+    // Whatever the database does, a request with an invalid field (member, token, limits, rule) gets that refusal,
+    // never `unavailable` instead. Each other message gets the bytes of its refusal or of some reply.
     ensures own_refusals { RepliesCutShort (AnswersMessage AnswersFirmly) (I.to_come input.old) tt tt (O.already output.old) (O.already output.new) }
-    // A crash during the call leaves the archive after a prefix of the messages that were sent, or after the one that follows as well,
-    // and no other reply says that something is stored.
+    // A crash during the call leaves the archive after a prefix of the messages, or after one more. Only replies to
+    // that prefix say that something is stored.
     ensures crash { IsServedSafely S.Store (I.to_come input.old) archive.old archive.new (O.already output.old) (O.already output.new) }
     ensures streams { UsesStreams I.Inlet O.Outlet input.old input.new output.old output.new result }
     ensures memory { result ≡ Err IoFault.Memory → (archive.new ≡ archive.old) × (input.new ≡ input.old) × (output.new ≡ output.old) }
@@ -66,7 +67,7 @@ pub fn serve<S: Alter, I: Inlet, O: Outlet>(
     serve_desk(alloc, archive, input, output)
 }
 
-/// Like [`serve`], for an archive in memory: no disk can fail there, so the replies are always those of a run.
+/// Like [`serve`], for an archive in memory. There is no disk to fail, so the replies always come from a run.
 pub fn serve_in_memory<I: Inlet, O: Outlet>(
     alloc: Global,
     archive: &mut Archive<MemStore>,

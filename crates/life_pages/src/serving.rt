@@ -1,4 +1,4 @@
-//! Serving the messages of a stream.
+//! Serving the messages of a stream with any desk: reading, answering, and the ways to stop.
 ghost use Rattle.std.specs.Prelude.{◌⊎◌, ◌≡◌, ℕ, ◌+◌, ◌-◌, ◌*◌, ◌<◌, ◌≤◌, List, [], ◌∷◌, ◌++◌, length, drop, true, false, vec_len, vec_capacity, Err, OnOk, OnErr, IfOk};
 ghost use Rattle.life_rle.specs.Stream.{count_after, ends_after, bytes_moved, incremented, EndsLast, FailsLast, ConsumesUpTo, Appends, AppendsSome};
 ghost use Rattle.life_pages.specs.Head.{Head};
@@ -21,16 +21,16 @@ use life_rle::{Failed, Inlet, Outlet, put_all};
 use matchit::Router;
 use std::alloc::{AllocError, Global};
 
-/// The most bytes that are held: a head and a body.
+/// The most bytes that are held: a head of 8 KiB and a body of 1 MiB.
 const HELD_LIMIT: usize = 1_056_768;
 
-/// The most takes of one call.
+/// The most reads of one call, so that it ends even if the stream does not.
 const TAKES: u64 = 1_048_576;
 
-/// The most bytes of one take.
+/// The most bytes of one read, which go through a buffer on the stack.
 const MOST_TAKEN: usize = 4096;
 
-/// The result for the first message that is held.
+/// The result of trying to answer the first message that is held.
 #[derive(Clone, Copy)]
 pub(crate) enum Step {
     /// It is not complete.
@@ -41,7 +41,7 @@ pub(crate) enum Step {
     Ends,
 }
 
-/// Drops the bytes before a place.
+/// Drops the first `n` bytes: an answered message.
 fn drop_front(held: &mut Vec<u8>, n: usize)
     requires { n ≤ vec_len held.old }
     ensures items { held.new.items ≡ drop n held.old.items }
@@ -52,7 +52,7 @@ fn drop_front(held: &mut Vec<u8>, n: usize)
     held.truncate(rest);
 }
 
-/// Puts the reply to a bad message.
+/// Writes the reply to a bad message.
 fn put_bad<O: Outlet>(output: &mut O) -> Result<(), Failed>
     ensures all { OnOk result (Appends (O.already output.old) (O.already output.new) bad_bytes) }
     ensures some { OnErr result (AppendsSome (O.already output.old) (O.already output.new) bad_bytes) }
@@ -62,7 +62,8 @@ fn put_bad<O: Outlet>(output: &mut O) -> Result<(), Failed>
     put_all(output, page_reply(MessageRefusal::BadMessage))
 }
 
-/// Answers the first message, if it is complete. It is not if fewer bytes are held than needed.
+/// Answers the first message, if it is complete. With fewer than `wanted` bytes it isn't, and its head is not read
+/// again.
 #[tactic(auto, using(crate::proofs::MessageStanding::wants_none))]
 fn serve_one<O: Outlet, D: Desk>(
     alloc: Global,
@@ -144,7 +145,7 @@ fn serve_held<O: Outlet, D: Desk>(
     }
 }
 
-/// How many bytes may be taken after those that are held.
+/// How many bytes the next read may add to those that are held.
 fn room_left(held: &Vec<u8>) -> usize
     requires { vec_len held.now < HELD_LIMIT }
     ensures some { 0 < result }
@@ -154,7 +155,7 @@ fn room_left(held: &Vec<u8>) -> usize
     (HELD_LIMIT - held.len()).min(MOST_TAKEN)
 }
 
-/// Takes bytes into a buffer, and adds them to those that are held.
+/// Reads bytes once through a buffer, and appends them to those that are held.
 fn take_into<I: Inlet>(input: &mut I, space: &mut [u8], held: &mut Vec<u8>) -> Result<usize, Failed>
     requires some { 0 < length space.old }
     requires fits { vec_len held.old + length space.old ≤ vec_capacity held.old }
@@ -175,7 +176,7 @@ fn take_into<I: Inlet>(input: &mut I, space: &mut [u8], held: &mut Vec<u8>) -> R
     }
 }
 
-/// Reads more bytes: those that are held have no complete message.
+/// Reads once more, when the held bytes have no complete message.
 fn take_more<I: Inlet>(input: &mut I, held: &mut Vec<u8>) -> Result<usize, Failed>
     requires none { HasNone held.old.items }
     requires space { vec_len held.old < HELD_LIMIT }
@@ -193,20 +194,20 @@ fn take_more<I: Inlet>(input: &mut I, held: &mut Vec<u8>) -> Result<usize, Faile
     take_into(input, &mut space[..room], held)
 }
 
-/// The result of taking bytes as long as they are CR and LF.
+/// The result of reading bytes as long as they are CR and LF.
 #[derive(Clone, Copy)]
 pub(crate) enum AfterBlank {
-    /// All were, to the end.
+    /// The stream ended, and all bytes were CR and LF.
     Ended,
-    /// Another byte came.
+    /// Another byte was read.
     Other,
-    /// A take failed.
+    /// Reading failed.
     Failed,
-    /// A take past the limit would be needed.
+    /// Another read would exceed the limit.
     TooMany,
 }
 
-/// Takes bytes as long as they are CR and LF, and keeps none.
+/// Reads and drops bytes as long as they are CR and LF, with at most `takes` reads.
 fn pass_blank<I: Inlet>(input: &mut I, takes: u64) -> AfterBlank
     ensures passed { IsAfterBlank result takes (I.last_take input.new) (I.to_come input.old) (I.to_come input.new) }
     ensures most { ConsumesUpTo (takes * MOST_TAKEN) (I.to_come input.old) (I.to_come input.new) }
@@ -229,7 +230,8 @@ fn pass_blank<I: Inlet>(input: &mut I, takes: u64) -> AfterBlank
     AfterBlank::TooMany
 }
 
-/// Whether as many CR and LF bytes are held as a head may have, and no others: a message that begins so never comes.
+/// Whether the held bytes are only CR and LF, and at least as many as a head may have. No valid message can follow
+/// them.
 fn is_long_blank(held: &[u8]) -> bool
     ensures blank { result ≡ true → are_line_breaks held.now ≡ true }
     ensures never { result ≡ true → NeverHas held.now }
@@ -238,7 +240,7 @@ fn is_long_blank(held: &[u8]) -> bool
     held.len() >= HEAD_LIMIT && are_blank(held)
 }
 
-/// After long CR and LF bytes: the stream ends with more of them, or with a bad message.
+/// Serves the rest of a stream after too many CR and LF bytes: it ends with more of them, or with a bad message.
 fn serve_blank<I: Inlet, O: Outlet>(
     input: &mut I,
     output: &mut O,
@@ -262,7 +264,7 @@ fn serve_blank<I: Inlet, O: Outlet>(
     }
 }
 
-/// The end of the input: the held bytes are only CR and LF, or a message that is cut off.
+/// Finishes at the end of the input. The held bytes are only CR and LF, or a message that was cut off, which is bad.
 fn finish<O: Outlet, D: Desk>(desk: &D, output: &mut O, held: &[u8]) -> Result<(), IoFault>
     requires { HasNone held.now }
     ensures end { AtEnd (AnswersMessage D.answers) result held.now desk.now (O.already output.old) (O.already output.new) }
@@ -277,7 +279,7 @@ fn finish<O: Outlet, D: Desk>(desk: &D, output: &mut O, held: &[u8]) -> Result<(
     }
 }
 
-/// The memory that serving needs.
+/// All memory that serving itself needs, allocated before the first read. Requests and long replies need more.
 #[derive(Drop)]
 struct Ready {
     routes: Router<(Method, Template)>,
@@ -287,7 +289,7 @@ struct Ready {
     buffers: ReplyBuffers,
 }
 
-/// The routes, the buffer and the reserve for a reply.
+/// Allocates the router, the buffer for input and the room for short replies.
 #[tactic(auto, using(crate::proofs::MessageStanding::wants_none))]
 fn prepared(alloc: Global) -> Result<Ready, AllocError>
     ensures routes { IfOk result (λ p. p.routes ≡ route_rows) }
@@ -308,7 +310,7 @@ fn prepared(alloc: Global) -> Result<Ready, AllocError>
     }
 }
 
-/// Answers the messages of a stream, with the memory reserved.
+/// Answers the messages of a stream, with memory that was allocated before.
 fn serve_stream<I: Inlet, O: Outlet, D: Desk>(
     alloc: Global,
     ready: &mut Ready,
@@ -358,7 +360,7 @@ fn serve_stream<I: Inlet, O: Outlet, D: Desk>(
     }
 }
 
-/// Answers the messages of a stream with any desk.
+/// Answers the messages of a stream with any desk. Without memory it fails before the first read.
 pub(crate) fn serve_desk<I: Inlet, O: Outlet, D: Desk>(
     alloc: Global,
     desk: &mut D,

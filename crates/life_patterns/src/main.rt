@@ -1,5 +1,5 @@
-//! The program `life` without its archive: the jobs over a pattern file or a code. It takes the same arguments and prints the
-//! same texts; commands that need an archive answer `unavailable`.
+//! The program `life` without an archive, for pattern files and codes. It has the same arguments and output; commands
+//! that need an archive are refused as `unavailable`.
 #![tactic(auto)]
 
 ghost use Rattle.std.specs.Prelude.{◌≡◌, Some, codes};
@@ -10,7 +10,7 @@ use life_rle::{Inlet, Outlet};
 use std::io;
 use std::process::ExitCode;
 
-/// No archive at all.
+/// Stops every job over an archive.
 #[derive(Drop)]
 struct NoArchive;
 

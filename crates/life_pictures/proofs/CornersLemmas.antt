@@ -1,4 +1,4 @@
--- The corners of the box of two sets together, and what they tell of a set.
+-- The corners of the box around two sets, and the upper left cell and the extent that corners give.
 use Rattle.std.specs.Prelude.{◌≡◌, ◌≤ℤ◌, ◌-ℤ◌, ◌+ℤ◌, ℤ, pos, neg_ℤ, Bool, true, false, ◌||◌, ◌⊎◌, Option, None, Some}
 use Rattle.std.specs.Prelude.{List, [], ◌∷◌, IfSome}
 use Rattle.std.proofs.Common.{w64, to_z, of_z, ℕ, map, sym, ap, subst, ◌∙◌, inl, inr, arith, refl}

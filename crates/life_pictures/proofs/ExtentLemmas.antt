@@ -1,4 +1,4 @@
--- How large the box of the cells of a quarter of the plane can be.
+-- The greatest size of a box of cells whose coordinates are not negative.
 use Rattle.std.proofs.Common.{ℕ, ◌+◌, ◌≤◌, List, [], ◌∷◌, map, max, arith}
 use Rattle.std.specs.List.{All, fold}
 use Rattle.std.proofs.lemmas.Int.{ints}

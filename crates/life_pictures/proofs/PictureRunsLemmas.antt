@@ -1,4 +1,4 @@
--- The longest runs of cells, and the path that is drawn from those of a pattern.
+-- The longest runs of cells, and the path that is drawn from a pattern's runs.
 use Rattle.std.proofs.Common.{◌≡◌, ℕ, zero, suc, ◌+◌, ◌<◌, ◌≤◌, Bool, true, false, ◌&&◌, cond, eqb, List, [], ◌∷◌, ◌++◌}
 use Rattle.std.proofs.Common.{map, take, length, get_or, refl, ap, ◌∙◌, sym, subst, arith, add-one}
 use Rattle.std.specs.List.{All, flat_map}

@@ -5,7 +5,7 @@ use Rattle.life_core.specs.declared.cell.Cell.{Cell}
 use Rattle.life_core.specs.Pattern.{Cells, IsLeast, IsGreatest}
 use Rattle.life_pictures.specs.declared.corners.Corners.{Corners}
 
--- this many columns or rows from one on, within 4096 of the origin
+-- `count` columns or rows from `from` on, all within 4096 of the origin; frames reach at most 1024 + 2048 + 239
 pub record IsNearSpan (from : ℤ) (count : ℕ) : Type 0 where
   pub some : 1 ≤ count
   pub low : neg_ℤ (pos 4096) ≤ℤ from
@@ -33,6 +33,6 @@ abbrev pub HasCorners : Cells → Option Corners → Type 0
 HasCorners X None = X ≡ set.empty
 HasCorners X (Some e) = AreCorners e X
 
--- Z has the cells of X and those of Y
+-- Z is the union of X and Y
 abbrev pub AreTogether : Cells → Cells → Cells → Type 0
 AreTogether X Y Z = (c : Cell) → set.contains Z c ≡ (set.contains X c || set.contains Y c)

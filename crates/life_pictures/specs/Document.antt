@@ -13,13 +13,13 @@ opening width height =
     ++ with_number (codes " ") (height + 2)
     ++ codes "\" shape-rendering=\"crispEdges\">\n"
 
--- the background: the whole view box
+-- the background: a white rectangle that fills the view box
 abbrev pub background : ℕ → ℕ → List ℕ
 background width height =
     with_number (codes "<rect x=\"-1\" y=\"-1\" width=\"") (width + 2)
     ++ with_number (codes "\" height=\"") (height + 2) ++ codes "\" fill=\"white\"/>\n"
 
--- what comes before the paths
+-- the document up to its path
 unfoldable pub front : ℕ → ℕ → Option (List ℕ) → List ℕ
 front width height name = opening width height ++ title name ++ background width height
 

@@ -1,4 +1,4 @@
--- What `life-draw` writes for its input.
+-- The output of `life-draw` for its input.
 use Rattle.std.specs.Prelude.{ℕ, ◌≤◌, ◌<◌, ◌-◌, List, Result}
 use Rattle.life_rle.specs.declared.rle_fault.RleFault.{RleFault}
 use Rattle.life_rle.specs.Record.{Contents}

@@ -1,5 +1,4 @@
--- What the picture that the arguments name does, and the status of the program. `Answers` of life_words says which
--- picture the arguments name.
+-- The effect of `life-draw`, and its status. `Answers` of life_words says which picture the arguments name.
 use Rattle.std.specs.Prelude.{◌≡◌, ◌↔◌, Option, Some, Result, Err}
 use Rattle.std.specs.declared.process.ExitCode.{ExitCode}
 use Rattle.life_rle.specs.declared.stream.Inlet as inlet
@@ -14,7 +13,7 @@ use Rattle.life_program.specs.Job.{IsStatus, line_after, status_after, status_by
 use Rattle.life_pictures.specs.declared.draw_job.Picture.{Picture}
 use Rattle.life_pictures.specs.DrawJobs.{IsGood, picture_text}
 
--- What drawing does, and its answer. Its numbers are checked first, and then it writes the picture of the file or says
+-- The effect and the result of drawing: it checks the numbers first, and then writes the picture of the file or reports
 -- why it can't.
 pub record Draws {I O : Type 0} (i : inlet.Ghosts I) (o : outlet.Ghosts O) (picture : Picture) (input rest : I)
     (output sent : O) (answer : Result (Unit {0}) Stop) : Type 0 where
@@ -26,9 +25,9 @@ pub record Draws {I O : Type 0} (i : inlet.Ghosts I) (o : outlet.Ghosts O) (pict
       (i.ends input) (i.ends rest) (i.last_take rest) answer
   pub once : PutsOnce output sent (o.failures output) (o.failures sent) (o.last_failed sent) answer
 
--- The outcome for arguments that name this picture, or none. It was drawn on these streams, and the status is 0, or 1
--- if drawing stopped; or nothing was taken or put, and the status is that of the fault, which is out of memory or,
--- exactly if they name no picture, a usage error.
+-- The outcome for arguments that name this picture, if any. Either it was drawn on these streams, and the status is 0,
+-- or 1 if drawing stopped. Or no byte was read or written, and a fault decides the status. This fault is out of memory
+-- or, exactly when the arguments name no picture, a usage error.
 pub data DrawEnd {I O E : Type 0} (i : inlet.Ghosts I) (o : outlet.Ghosts O) (words : Option Picture) (input rest : I)
     (output sent : O) (result : Result ExitCode E) : Type 0 where
   draws : (picture : Picture) (answer : Result (Unit {0}) Stop) → words ≡ Some picture

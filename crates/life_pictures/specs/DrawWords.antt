@@ -1,6 +1,6 @@
 -- The arguments of `life-draw`, and the picture that they name.
--- The kit's `clap` defines what a command is, which arguments it takes and what it reads in them; the names of the
--- subcommands are the program's own.
+-- The kit's `clap` defines commands, the arguments that they accept, and how these are read. Only the names of the
+-- subcommands are defined here.
 use Rattle.std.specs.Prelude.{true, if◌then◌else◌, List, Option, None, Some, option_and_then, codes, bytes_eq}
 use Rattle.clap.specs.Words.{App, Row, Text, new_app, with_rule, with_subcommand}
 use Rattle.clap.specs.Simple.{on_top}
@@ -21,15 +21,15 @@ abbrev pub animation_app : App
 animation_app =
     with_rule (with_rule (new_app (codes "animation")) (number_rule (codes "FIRST"))) (number_rule (codes "LAST"))
 
--- the program's name, which requires a subcommand
-abbrev pub draw_alone : App
-draw_alone = on_top (λ top. record top { subcommand_required = true }) (with_version (new_app (codes "life-draw")))
+-- `life-draw`, which requires a subcommand
+abbrev pub bare_draw : App
+bare_draw = on_top (λ top. record top { subcommand_required = true }) (with_version (new_app (codes "life-draw")))
 
--- the whole command, with its subcommands in the order in which help lists them
+-- the complete command, with its subcommands in the order in which help lists them
 abbrev pub draw : App
-draw = with_subcommand (with_subcommand (with_subcommand draw_alone text_app.top) svg_app.top) animation_app.top
+draw = with_subcommand (with_subcommand (with_subcommand bare_draw text_app.top) svg_app.top) animation_app.top
 
--- the picture that a subcommand of this name with these matches asks for
+-- the picture that a subcommand with this name and these matches requests
 abbrev pub picture_named : Text → List Row → Option Picture
 picture_named name rows =
     if bytes_eq name (codes "text") then Some picture.Text

@@ -14,15 +14,15 @@ use Rattle.life_pictures.specs.Numbers.{with_number}
 use Rattle.life_pictures.specs.PictureRuns.{path}
 use Rattle.life_pictures.specs.Document.{front}
 
--- the cells of X and of its next generations, this many in all
+-- the cells of `count` generations, from X on; a cell occurs once for each generation in which it is live
 abbrev pub trail_cells : RuleSets → Cells → ℕ → List Cell
 trail_cells rule X count = flat_map (λ k. in_order (generation_of rule X k)) (range_with_len 0 count)
 
--- all cells that are live in one of them
+-- the cells that are live in at least one of these generations
 unfoldable pub trail : RuleSets → Cells → ℕ → Cells
 trail rule X count = set.from_list (trail_cells rule X count)
 
--- a set in a box whose upper left cell is this one
+-- X in the coordinates of a box whose upper left cell is `at`
 abbrev pub in_box : Cell → Cells → Cells
 in_box at X = image (moved_cell (neg_ℤ at.column) (neg_ℤ at.row)) X
 
@@ -50,6 +50,6 @@ moving name rule X more =
     let box = pairs_of (normal all) in
     front (width_of box) (height_of box) name ++ animated_path rule X (corner all) more ++ codes "</svg>\n"
 
--- the document of generation n of a record and this many more
+-- the document of generation n of a record and the `more` generations after it
 abbrev pub animation : Contents → ℕ → ℕ → List ℕ
 animation r n more = moving r.name r.rule (generation_of r.rule r.cells n) more

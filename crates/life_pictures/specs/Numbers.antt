@@ -1,4 +1,4 @@
--- Texts with numbers.
+-- Decimal numbers in the texts of SVG documents.
 use Rattle.std.specs.Prelude.{ℕ, List, ◌++◌}
 use Rattle.std.specs.Fmt.{decimal}
 

@@ -10,11 +10,12 @@ use Rattle.life_pictures.specs.declared.picture_frames.TheConstants.{MOST_FRAMES
 use Rattle.life_pictures.specs.Numbers.{with_number}
 use Rattle.life_pictures.specs.Frames.{frame}
 
--- no cell of X is left of this one or above it
+-- no cell of X is left of `at` or above it
 abbrev pub IsCornerOf : Cell → Cells → Type 0
 IsCornerOf at X = (c : Cell) → set.contains X c ≡ true → (at.column ≤ℤ c.column) × (at.row ≤ℤ c.row)
 
--- a pattern near the origin, and no more generations after it than an animation may show
+-- a pattern near the origin, and no more generations after it than an animation may show. A record fits in 1024 by
+-- 1024 and evolves for at most 2048 generations, which gives 3072.
 abbrev pub AreFrames : Cells → ℕ → Type 0
 AreFrames start more = (more < MOST_FRAMES) × IsWithin 3072 start
 

@@ -1,4 +1,4 @@
--- What makes the definitions of pictures believable.
+-- Laws that make the definitions of pictures believable.
 use Rattle.std.specs.Prelude.{◌≡◌, ◌≢◌, ◌≤◌, ◌<◌, ◌+◌, ◌-◌, ℕ, Bool, true, false, ◌||◌, List, [], ◌∷◌, ◌++◌, replicate}
 use Rattle.std.specs.List.{All, flat_map}
 use Rattle.std.specs.FinSet as set
@@ -29,7 +29,7 @@ LinesEndLive =
 abbrev pub RunsAreTheCells : Type 0
 RunsAreTheCells = (cells : List (ℕ × ℕ)) → flat_map cells_of_run (runs_of cells) ≡ cells
 
--- each run has a cell, and none begins right of the one before it
+-- each run has a cell, and no run begins right after the end of the one before it
 abbrev pub AreMaximalRuns : List Run → Type 0
 AreMaximalRuns [] = Unit {0}
 AreMaximalRuns (run ∷ []) = 0 < run.length

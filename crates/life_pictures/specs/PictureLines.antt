@@ -12,7 +12,7 @@ use Rattle.life_rle.specs.Writer.{pairs_of, width_of, height_of}
 abbrev pub is_live_at : Cells → ℕ → ℕ → Bool
 is_live_at X column row = set.contains X (record { row = pos row; column = pos column })
 
--- the two cells of a column that line i shows: of the row with twice that number, and of the row below it
+-- the two cells of a column that line i shows: in row 2 i and in the row below
 abbrev pub two_cells : Cells → ℕ → ℕ → Bool × Bool
 two_cells X i column = (is_live_at X column (2 * i), is_live_at X column (2 * i + 1))
 
@@ -28,19 +28,19 @@ abbrev pub before_cells : Bool × Bool → List (Bool × Bool) → List (Bool ×
 before_cells two [] = if two.0 || two.1 then two ∷ [] else []
 before_cells two (next ∷ others) = two ∷ next ∷ others
 
--- without the dead cells at the end
+-- the list without its pairs of dead cells at the end
 unfoldable pub trimmed : List (Bool × Bool) → List (Bool × Bool)
 trimmed [] = []
 trimmed (two ∷ others) = before_cells two (trimmed others)
 
--- what line i shows in this many columns
+-- the pairs of cells that line i shows, in this many columns
 abbrev pub cells_of_line : Cells → ℕ → ℕ → List (Bool × Bool)
 cells_of_line X width i = trimmed (map (two_cells X i) (range_with_len 0 width))
 
--- line i with this many columns, with its end
+-- line i with this many columns and its line feed
 unfoldable pub line : Cells → ℕ → ℕ → List ℕ
 line X width i = flat_map (λ two. encode_utf8 (half_block two)) (cells_of_line X width i) ++ line_feed ∷ []
 
--- the lines of a normal set, over its box
+-- the lines of a normal set, over its box; those of a glider are ` ▀▄` and `▀▀▀`
 unfoldable pub text : Cells → List ℕ
 text X = flat_map (line X (width_of (pairs_of X))) (range_with_len 0 (div_ceil (height_of (pairs_of X)) 2))

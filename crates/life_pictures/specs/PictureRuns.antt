@@ -8,7 +8,7 @@ use Rattle.life_rle.specs.Writer.{pairs_of}
 use Rattle.life_pictures.specs.declared.picture_runs.Run.{Run}
 use Rattle.life_pictures.specs.Numbers.{with_number}
 
--- whether a run begins right of a cell
+-- whether a run begins directly right of a cell
 abbrev pub is_right_of : ℕ × ℕ → Run → Bool
 is_right_of cell run = run.row == cell.1 && run.column == cell.0 + 1
 
@@ -20,7 +20,7 @@ run_from cell length = record { column = cell.0; row = cell.1; length = length }
 abbrev pub cells_of_run : Run → List (ℕ × ℕ)
 cells_of_run r = run r.column r.row r.length
 
--- one more cell (column, row) in front of runs
+-- runs with one more cell (column, row) in front
 abbrev pub before_runs : ℕ × ℕ → List Run → List Run
 before_runs cell [] = run_from cell 1 ∷ []
 before_runs cell (run ∷ runs) =
@@ -31,12 +31,12 @@ unfoldable pub runs_of : List (ℕ × ℕ) → List Run
 runs_of [] = []
 runs_of (cell ∷ cells) = before_runs cell (runs_of cells)
 
--- the rectangle around a run: from its upper left corner to the right, down, and back
+-- the rectangle around a run, clockwise from its upper left corner; cells (0, 2) to (2, 2) give `M0 2h3v1h-3z`
 unfoldable pub run_path : Run → List ℕ
 run_path run =
     with_number (codes "M") run.column ++ with_number (codes " ") run.row ++ with_number (codes "h") run.length
     ++ with_number (codes "v1h-") run.length ++ codes "z"
 
--- the rectangles of all runs of a normal set
+-- the rectangles of all runs of a normal set, such as `M1 0h1v1h-1zM2 1h1v1h-1zM0 2h3v1h-3z` for a glider
 unfoldable pub path : Cells → List ℕ
 path X = flat_map run_path (runs_of (pairs_of X))

@@ -1,4 +1,4 @@
--- The runs that the code draws.
+-- Runs of life_core as the runs of a path.
 use Rattle.life_core.specs.declared.runs.Run.{Run as CellRun}
 use Rattle.life_rle.specs.WriterState.{column_of, row_of}
 use Rattle.life_pictures.specs.declared.picture_runs.Run.{Run}

@@ -8,7 +8,7 @@ use Rattle.std.specs.Str.{chars}
 use Rattle.std.specs.Str.Lossy.{utf8_lossy}
 use Rattle.life_core.specs.Ascii.{tab, line_feed, carriage_return, space}
 
--- a character that XML allows
+-- a character that an XML 1.0 document may contain
 abbrev pub is_xml_char : ℕ → Bool
 is_xml_char c =
     c == tab || c == line_feed || c == carriage_return || is_in_range space 0xD7FF c || is_in_range 0xE000 0xFFFD c

@@ -83,7 +83,7 @@ pub(crate) fn corners_of<A: Allocator>(pattern: &Pattern<A>) -> Option<Corners>
     }
 }
 
-/// The corners of the box of two sets together.
+/// The corners of the box around two sets.
 pub(crate) fn corners_of_both(one: Option<Corners>, other: Option<Corners>) -> Option<Corners>
     requires one { IfSome one AreNear }
     requires other { IfSome other AreNear }

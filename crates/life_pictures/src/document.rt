@@ -10,7 +10,7 @@ use life_core::Fault;
 use life_rle::{Record, Text};
 use std::alloc::{AllocError, Allocator};
 
-/// Writes the beginning of the document, with its view box.
+/// Writes the opening tag, whose view box is this box with a margin of one cell.
 fn put_opening<A: Allocator>(out: &mut Vec<u8, A>, extent: Extent) -> Result<(), AllocError>
     requires width { extent.width < 2 ^ 62 }
     requires height { extent.height < 2 ^ 62 }
@@ -23,7 +23,7 @@ fn put_opening<A: Allocator>(out: &mut Vec<u8, A>, extent: Extent) -> Result<(),
     Ok(())
 }
 
-/// Writes the rectangle of the view box, behind the cells.
+/// Writes a white rectangle that fills the view box. The cells are drawn over it.
 fn put_background<A: Allocator>(out: &mut Vec<u8, A>, extent: Extent) -> Result<(), AllocError>
     requires width { extent.width < 2 ^ 62 }
     requires height { extent.height < 2 ^ 62 }
@@ -52,8 +52,8 @@ pub(crate) fn put_front<A: Allocator + Copy>(
     Ok(())
 }
 
-/// The picture of a record as an SVG document: its name as the title, and one path of the longest runs of its cells in each row. The
-/// view box is the cells' box with a margin of one cell.
+/// The picture of a record as an SVG document. Its title is the record's name, and one path draws all cells, with a
+/// rectangle for each longest run of a row. The view box is the cells' box with a margin of one cell.
 pub fn svg<A: Allocator + Copy>(alloc: A, record: &Record<A>) -> Result<Vec<u8, A>, Fault>
     ensures { IfOk result (λ v. v.items ≡ svg «record».now) }
 {

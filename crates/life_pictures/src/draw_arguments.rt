@@ -2,7 +2,7 @@
 ghost use Rattle.std.specs.Prelude.{◌≡◌, map, IfOk};
 ghost use Rattle.clap.specs.Words.{app_of, subcommand_rows_of};
 ghost use Rattle.life_words.specs.Words.{MakesCommand, by_subcommand, Answers};
-ghost use Rattle.life_pictures.specs.DrawWords.{animation_app, draw_alone, draw, picture_named, words_picture};
+ghost use Rattle.life_pictures.specs.DrawWords.{animation_app, bare_draw, draw, picture_named, words_picture};
 
 use crate::draw_job::Picture;
 use clap::{ArgMatches, Command};
@@ -13,7 +13,7 @@ use life_words::{
 use std::alloc::{AllocError, Global};
 use std::convert::AsStr;
 
-// The help of each command: its purpose and, after the arguments, what it reads, prints and refuses, and an example.
+// The help of each command: its purpose and, after the arguments, its input, output, refusals and an example.
 const TEXT_ABOUT: &str = "Draws the pattern on standard input as text, in half blocks";
 
 const TEXT_HELP: &str = "\
@@ -51,8 +51,8 @@ Usage errors and requests for help end with status 2.
 Example: life generation 30 < gun.rle | life-draw text";
 
 // The command without its subcommands.
-fn command_alone<'a>(alloc: Global) -> Command<'a>
-    ensures { app_of result ≡ draw_alone }
+fn bare_command<'a>(alloc: Global) -> Command<'a>
+    ensures { app_of result ≡ bare_draw }
 {
     program_command(alloc, "life-draw", DRAW_ABOUT, DRAW_HELP).subcommand_required(true)
 }
@@ -73,7 +73,7 @@ pub fn draw_command<'a>(alloc: Global) -> Result<Command<'a>, AllocError>
 {
     let text = named_command(alloc, "text", TEXT_ABOUT, TEXT_HELP);
     let svg = named_command(alloc, "svg", SVG_ABOUT, SVG_HELP);
-    let command = with_command(Ok(command_alone(alloc)), Ok(text));
+    let command = with_command(Ok(bare_command(alloc)), Ok(text));
     let command = with_command(command, Ok(svg));
     with_command(command, animation_command(alloc))
 }

@@ -1,4 +1,4 @@
-//! Drawing the pattern file on the input.
+//! Reading a pattern file and writing its picture.
 ghost use Rattle.std.specs.Prelude.{◌≡◌, ◌↔◌, IsTrue, IfOk, Err};
 ghost use Rattle.life_rle.specs.Record.{IsInside};
 ghost use Rattle.life_jobs.specs.PatternJobs.{PutsKnown};
@@ -24,7 +24,7 @@ pub enum Picture {
     Animation { first: u64, last: u64 },
 }
 
-/// Whether the numbers of a picture are valid.
+/// Whether an animation's generations are in range and not too many. Other pictures have no numbers.
 fn is_allowed(picture: Picture) -> bool
     ensures { IsTrue result ↔ IsGood picture }
 {
@@ -38,7 +38,7 @@ fn is_allowed(picture: Picture) -> bool
     }
 }
 
-/// The picture of a record.
+/// The bytes of a record's picture.
 fn drawn(alloc: Global, picture: Picture, record: &Record) -> Result<Vec<u8>, Fault>
     requires good { IsGood picture }
     requires inside { IsInside 1024 «record».now.cells }
@@ -71,8 +71,8 @@ fn put_picture<O: Outlet>(
     }
 }
 
-/// Reads a pattern file and writes its picture. It checks the numbers of an animation before it reads anything: the first is not above the
-/// last, the last is at most 2048, and there are at most [`MOST_FRAMES`]. It reads the input to its end, or to byte 1,048,577.
+/// Reads a pattern file, to its end or to byte 1,048,577, and writes its picture. It checks an animation's numbers
+/// before it reads anything: `first` is at most `last`, `last` at most 2048, with at most [`MOST_FRAMES`] generations.
 pub fn run_draw<I: Inlet, O: Outlet>(
     alloc: Global,
     picture: Picture,
@@ -81,7 +81,7 @@ pub fn run_draw<I: Inlet, O: Outlet>(
 ) -> Result<(), Stop>
     ensures limit { (result ≡ Err Stop.OutOfLimit) ↔ ¬ IsGood picture }
     ensures untouched { ¬ IsGood picture → (input.new ≡ input.old) × (output.new ≡ output.old) }
-    // If the input bytes are known, the output is their picture, and a bad pattern is theirs.
+    // If the input bytes are known, the output is their picture, and a reported bad pattern is their fault.
     ensures known { IsGood picture → PutsKnown (picture_text picture) (I.to_come input.old) (O.already output.old) (O.already output.new) result }
     ensures takes { TakesFile (I.to_come input.old) (I.to_come input.new) (I.failures input.old) (I.failures input.new) (I.ends input.old) (I.ends input.new) (I.last_take input.new) result }
     ensures once { PutsOnce output.old output.new (O.failures output.old) (O.failures output.new) (O.last_failed output.new) result }

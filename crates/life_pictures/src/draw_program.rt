@@ -14,7 +14,7 @@ use std::convert::AsStr;
 use std::io;
 use std::process::ExitCode;
 
-/// Whether these arguments name a picture. Each picture is one of the pattern on standard input.
+/// Whether these arguments name a picture, which always reads a pattern from standard input.
 fn reads_pattern(rt: &HostRuntime, words: &[String]) -> bool {
     read_draw_words(rt.alloc(), words).is_ok()
 }
@@ -29,8 +29,9 @@ fn print_done(rt: &HostRuntime, done: Result<(), Stop>) -> io::Result<ExitCode>
     }
 }
 
-/// Draws the picture that the arguments name from the input; the first argument is the program's name. Returns the status of the process: 0; 1
-/// if drawing stopped, with a line on standard error; 2 if the arguments name no picture, with the text from `clap`.
+/// Draws the picture that the arguments name. The first argument is the program's name. The status is 0 after drawing
+/// or a request for the version, and 1 if drawing stopped or memory ran out. It is 2 for all other arguments that name
+/// no picture, with the text from `clap`.
 pub fn run_words<I: Inlet, O: Outlet>(
     rt: &HostRuntime,
     words: &[String],

@@ -14,7 +14,7 @@ pub struct Extent {
     pub height: u64,
 }
 
-/// The box of cells from the origin on; 0 by 0 if there are none.
+/// The size of the smallest box that has the origin and all cells. Without cells it is 0 by 0.
 pub fn extent_of<A: Allocator>(cells: &Runs<A>) -> Extent
     requires { All IsQuarterCell cells.now }
     ensures width { result.width ≡ width_of (map coordinates cells.now) }

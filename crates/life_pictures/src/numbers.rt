@@ -5,7 +5,7 @@ ghost use Rattle.life_pictures.specs.Numbers.{with_number};
 use itoa::Buffer;
 use std::alloc::{AllocError, Allocator};
 
-/// Writes a text, and a number after it in decimal digits.
+/// Writes a text, followed by a number in decimal digits.
 pub fn put_numbered<A: Allocator>(
     out: &mut Vec<u8, A>,
     text: &[u8],

@@ -17,11 +17,11 @@ use life_core::{Cell, Fault, GENERATION_LIMIT, PackedRows, Pattern, Plane, Rule}
 use life_rle::{Record, Text};
 use std::alloc::Allocator;
 
-/// The most frames of an animation: the complete document is in memory before any of it is written.
+/// The most frames of an animation. It bounds memory, since the complete document is built before any of it is written.
 pub const MOST_FRAMES: u32 = 240;
 
-/// The generations after a pattern, this many: a near pattern always fits into rows of packed words. A run takes twelve bytes, and its rectangle in
-/// the document more.
+/// The next `more` generations of a pattern, which is always small enough for packed rows. A run takes 12 bytes, and no
+/// more than its rectangle in the document.
 fn generations_after<A: Allocator + Copy>(
     alloc: A,
     rule: &Rule,
@@ -40,7 +40,7 @@ fn generations_after<A: Allocator + Copy>(
     Ok(later)
 }
 
-/// The corners of the box of a pattern and of later ones, all together.
+/// The corners of the box around a pattern and all later ones.
 fn corners_of_all<A: Allocator>(start: &Pattern<A>, later: &[Pattern<A>]) -> Option<Corners>
     requires start { IsWithin 4096 start.now }
     requires later { All (IsWithin 4096) later.now }
@@ -53,7 +53,8 @@ fn corners_of_all<A: Allocator>(start: &Pattern<A>, later: &[Pattern<A>]) -> Opt
     corners
 }
 
-/// Writes the frame of a pattern in a box with this upper left cell.
+/// Writes the frame of a pattern in a box with this upper left cell. Its first move draws nothing, so that even an
+/// empty generation has data.
 fn put_frame<A: Allocator + Copy>(
     alloc: A,
     out: &mut Vec<u8, A>,
@@ -89,7 +90,8 @@ fn put_frames<A: Allocator + Copy>(
     Ok(())
 }
 
-/// Writes the path that shows a pattern and later ones. It has the first frame twice, which is made once.
+/// Writes the path that shows a pattern and later ones in a loop, an eighth of a second each. The first frame is
+/// written twice, but built once.
 fn put_animated_path<A: Allocator + Copy>(
     alloc: A,
     out: &mut Vec<u8, A>,
@@ -116,7 +118,7 @@ fn put_animated_path<A: Allocator + Copy>(
     Ok(())
 }
 
-/// A pattern with this name, and this many generations after it, as an SVG document.
+/// The SVG document of an animation that begins with this pattern and shows `more` generations after it.
 fn moving<A: Allocator + Copy>(
     alloc: A,
     name: &Option<Text<A>>,
@@ -137,8 +139,8 @@ fn moving<A: Allocator + Copy>(
     Ok(out)
 }
 
-/// Generation `n` of a record and this many more, as an SVG document that shows one after the other. The title is the record's name, and the
-/// view box is the box of all of them, with a margin of one cell.
+/// An SVG document that shows generation `n` of a record and then `more` later ones. The title is the record's name.
+/// The view box is the box of all of them, with a margin of one cell.
 pub fn animation<A: Allocator + Copy>(
     alloc: A,
     record: &Record<A>,

@@ -1,12 +1,12 @@
-//! What holds of all pictures.
+//! Laws of all pictures.
 ghost use Rattle.std.specs.Prelude.{◌≡◌};
 ghost use Rattle.life_pictures.specs.PictureLaws.{DeadAreLeftOut, LinesEndLive, RunsAreTheCells, RunsAreLongest, NamesStayText, FramesAreInTheBox};
 
 use crate::picture_frames::MOST_FRAMES;
 
-/// What makes the definitions of pictures believable: a line leaves out the dead cells at its end and nothing else; the runs of a path have
-/// exactly the cells, and no two neighbouring runs could be one; no name ends its title; each frame of an animation lies in the
-/// box, and there are at most `MOST_FRAMES`.
+/// A line leaves out exactly the dead cells at its end. The runs of a path have exactly the cells, and no two
+/// neighbouring runs could be one. No name ends its title. Each frame of an animation lies in the box. A law: calling
+/// it does nothing.
 pub fn laws_of_pictures()
     ensures dead { DeadAreLeftOut }
     ensures ends { LinesEndLive }

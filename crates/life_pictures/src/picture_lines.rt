@@ -34,7 +34,7 @@ fn has_live(two: (bool, bool)) -> bool
     two.0 || two.1
 }
 
-/// The character of two cells.
+/// The character that shows two cells, the upper one first.
 fn half_block(two: (bool, bool)) -> &'static str
     ensures { result.now ≡ encode_utf8 (half_block two) }
 {
@@ -46,7 +46,7 @@ fn half_block(two: (bool, bool)) -> &'static str
     }
 }
 
-/// How many columns line `i` has without the dead cells at its end.
+/// How many columns line `i` shows: those up to its last live cell.
 fn length_of_line<A: Allocator>(pattern: &Pattern<A>, width: u64, i: u64) -> u64
     requires line { i < 2 ^ 32 }
     requires width { width < 2 ^ 32 }
@@ -83,8 +83,8 @@ fn put_line<A: Allocator>(
     Ok(())
 }
 
-/// The picture of a record's cells as lines of half blocks. A line shows two rows of the cells' box, without trailing blanks; the empty
-/// pattern has no line.
+/// The picture of a record's cells as lines of half blocks. A line shows two rows of the cells' box, without trailing
+/// blanks. The empty pattern has no line.
 #[tactic(auto, unfolding(crate::specs::PictureLines::text))]
 pub fn text<A: Allocator + Copy>(alloc: A, record: &Record<A>) -> Result<Vec<u8, A>, Fault>
     requires inside { IsInside 1024 «record».now.cells }

@@ -31,7 +31,7 @@ impl Run {
     }
 }
 
-/// Writes the rectangle around a run.
+/// Writes the rectangle around a run, such as `M1 0h3v1h-3z`.
 #[tactic(auto, unfolding(crate::specs::PictureRuns::run_path))]
 fn put_rectangle<A: Allocator>(out: &mut Vec<u8, A>, run: Run) -> Result<(), AllocError>
     ensures { OnOk result (out.new.items ≡ out.old.items ++ run_path run) }

@@ -20,7 +20,7 @@ fn put_char<A: Allocator>(out: &mut Vec<u8, A>, c: char) -> Result<(), AllocErro
     out.extend_from_slice(c.encode_utf8(&mut [0; 4]).as_bytes())
 }
 
-/// Writes a character as XML text.
+/// Writes a character as XML text, or U+FFFD if XML forbids it.
 fn put_escaped<A: Allocator>(out: &mut Vec<u8, A>, c: char) -> Result<(), AllocError>
     ensures { OnOk result (out.new.items ≡ out.old.items ++ escaped c) }
 {

@@ -1,4 +1,4 @@
--- The outcome for arguments, from what their job returned.
+-- The outcome for a command line, from the answer of its job.
 use Rattle.std.proofs.Common.{◌≡◌, ℕ, List, Option, None, Some, Result, Ok, Err, MatchResult}
 use Rattle.std.specs.declared.process.ExitCode.{ExitCode}
 use Rattle.life_rle.specs.declared.stream.Inlet as inlet

@@ -1,4 +1,4 @@
-//! Running the job that the arguments name, on any streams.
+//! Runs the job that the arguments name, on any streams.
 ghost use Rattle.std.specs.Prelude.{◌≡◌, ℕ, Bool, List, Option, None, Some, Err, MatchResult};
 ghost use Rattle.life_jobs.specs.JobStop.{line_of};
 ghost use Rattle.life_jobs.specs.declared.stop.Stop.{Stop as StopValue};
@@ -13,17 +13,17 @@ use life_rle::{Inlet, Outlet};
 use life_words::Job;
 use std::alloc::Global;
 
-/// The jobs over an archive in a file, which each program does in its own way. Each returns the line for standard error if it stops, without
-/// its line end; the line is empty to print none.
+/// The jobs over an archive in a file, which each program implements. If a job stops, it returns the line for standard
+/// error, without its line end; the line is empty to print none.
 pub trait ArchiveJobs: Drop {
-    // What a deposit does: a relation of its file, member and token, its streams before and after, and the line.
+    // A relation between a deposit's file, member and token, its streams before and after, and the line.
     ghost deposits: { (I O : Type 0) → inlet.Ghosts I → outlet.Ghosts O → List ℕ → List ℕ → List ℕ → I → I → O → O → Option (List ℕ) → Type 0 };
-    // What serving does: a relation of its file, port, number of connections, and the line.
+    // A relation between the file, the port, the number of connections, and the line.
     ghost serves: { List ℕ → ℕ → ℕ → Option (List ℕ) → Type 0 };
-    // What a check does: a relation of its file, whether it is quick, the output before and after, and the line.
+    // A relation between the file, whether the check is quick, the output before and after, and the line.
     ghost checks: { (O : Type 0) → outlet.Ghosts O → List ℕ → Bool → O → O → Option (List ℕ) → Type 0 };
 
-    /// Deposits the pattern on the input under the member and the token.
+    /// Stores the pattern on the input under this member and token.
     fn deposit<I: Inlet, O: Outlet>(
         self,
         rt: &HostRuntime,
@@ -37,7 +37,7 @@ pub trait ArchiveJobs: Drop {
             (λ _. deposits I O I.Inlet O.Outlet file.now member.now token.now input.old input.new output.old output.new None)
             (λ line. deposits I O I.Inlet O.Outlet file.now member.now token.now input.old input.new output.old output.new (Some line.now)) };
 
-    /// Serves this many connections at the port.
+    /// Serves this many connections at the port, and then ends.
     fn serve(
         self,
         rt: &HostRuntime,
@@ -47,7 +47,7 @@ pub trait ArchiveJobs: Drop {
     ) -> Result<(), &'static str>
         ensures { MatchResult result (λ _. serves file.now port connections None) (λ line. serves file.now port connections (Some line.now)) };
 
-    /// Checks the archive in the file, and writes the result. A quick check counts no census.
+    /// Checks the archive in the file, and writes the result. A quick check doesn't count the censuses again.
     fn check<O: Outlet>(
         self,
         rt: &HostRuntime,
@@ -59,12 +59,11 @@ pub trait ArchiveJobs: Drop {
             (λ _. checks O O.Outlet file.now quick output.old output.new None)
             (λ line. checks O O.Outlet file.now quick output.old output.new (Some line.now)) };
 
-    /// Prints a line on standard error that says why the file could not be used, if a second look at it tells. It follows the line of a job that
-    /// was unavailable.
+    /// Called after the line of a job that was `unavailable`. Looks at the file again, and prints on standard error
+    /// why it could not be used, if that can be found out.
     fn say_why(rt: &HostRuntime, file: &str);
 }
 
-/// Turns a stop into its line.
 fn or_line(done: Result<(), Stop>) -> Result<(), &'static str>
     ensures { MatchResult result (λ _. line_after done ≡ None) (λ line. line_after done ≡ Some line.now) }
 {
@@ -74,7 +73,7 @@ fn or_line(done: Result<(), Stop>) -> Result<(), &'static str>
     }
 }
 
-/// Does a job over a file or a code, or explains a refusal.
+/// Does a job that needs no archive. [`do_job`] passes no other.
 fn do_file_job<I: Inlet, O: Outlet>(
     alloc: Global,
     job: Job<'_>,
@@ -95,8 +94,8 @@ fn do_file_job<I: Inlet, O: Outlet>(
     }
 }
 
-/// Does the job on these streams, with `archives` if it concerns an archive. Like [`ArchiveJobs`], it returns the line for standard error if
-/// the job stops.
+/// Does the job on these streams; `archives` does the jobs over an archive. If the job stops, this returns the line
+/// for standard error, as [`ArchiveJobs`] does.
 pub fn do_job<J: ArchiveJobs, I: Inlet, O: Outlet>(
     rt: &HostRuntime,
     archives: J,

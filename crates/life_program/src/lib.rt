@@ -1,5 +1,5 @@
-//! What the programs share: the line that is printed if a job stops, the status of the process, and a line of progress; and, for those that take the
-//! arguments of `life`, running the job.
+//! Shared by the programs: the line printed if a job stops, the exit status, and a line of progress. For programs with
+//! the arguments of `life`, it also runs the job.
 #![tactic(auto)]
 
 mod explain_job;

@@ -1,4 +1,4 @@
-//! What a program prints if it does no job, and its status then.
+//! The messages and the exit status of a program whose job stopped or never began.
 ghost use Rattle.life_program.specs.Job.{status_by, IsStatus};
 
 use clap::error::ErrorKind;
@@ -7,10 +7,10 @@ use life_words::WordFault;
 use std::io;
 use std::process::ExitCode;
 
-/// The status for arguments that name no job.
+/// The exit status for usage errors and requests for help.
 const BAD_WORDS: u8 = 2;
 
-/// Prints the line of a stop, if it has one, and returns the status 1.
+/// Prints the line of a stop, unless it is empty, and returns status 1.
 pub fn print_stop(rt: &impl Eprint, line: &str) -> io::Result<ExitCode>
     ensures { IsStatus result 1 }
 {
@@ -20,8 +20,8 @@ pub fn print_stop(rt: &impl Eprint, line: &str) -> io::Result<ExitCode>
     Ok(ExitCode::FAILURE)
 }
 
-/// Prints why the arguments name no job: the text from `clap` on standard error, with status 2, or out of memory, as for a stop. The version
-/// goes to standard output, with status 0.
+/// Prints a usage error or help from `clap` on standard error, with status 2. The version goes to standard output,
+/// with status 0. Out of memory is printed as for a stop, with status 1.
 pub fn print_fault(rt: &HostRuntime, fault: WordFault) -> io::Result<ExitCode>
     ensures { IsStatus result (status_by fault) }
 {
@@ -31,8 +31,8 @@ pub fn print_fault(rt: &HostRuntime, fault: WordFault) -> io::Result<ExitCode>
             return Ok(ExitCode::SUCCESS);
         }
         WordFault::BadWords(Some(error)) => {
-            // If standard error fails, only the status can report it.
-            let _told = eprint!(rt; "{error}");
+            // Ignored: if standard error fails, only the status can report it.
+            let _ignored = eprint!(rt; "{error}");
         }
         WordFault::BadWords(None) => {}
         WordFault::Memory => return print_stop(rt, Stop::Unavailable.line()),

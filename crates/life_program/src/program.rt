@@ -1,4 +1,4 @@
-//! From the arguments of the process to its status.
+//! Runs a program: from its arguments to its exit status.
 ghost use Rattle.std.specs.Prelude.{map, MatchResult};
 ghost use Rattle.life_words.specs.Words.{words_job};
 ghost use Rattle.life_program.specs.Job.{IsStatus, WordsEnd};
@@ -13,7 +13,7 @@ use std::convert::AsStr;
 use std::io;
 use std::process::ExitCode;
 
-/// Whether these arguments name a job that reads a pattern from standard input.
+/// Whether these arguments are valid and their job reads a pattern from standard input.
 fn reads_pattern(rt: &HostRuntime, words: &[String]) -> bool {
     matches!(
         read_words(rt.alloc(), words),
@@ -21,7 +21,7 @@ fn reads_pattern(rt: &HostRuntime, words: &[String]) -> bool {
     )
 }
 
-/// The file of a job over an archive.
+/// `None` for a job that needs no archive.
 fn archive_of<'a>(job: &Job<'a>) -> Option<&'a str> {
     match job {
         Job::Deposit { file, .. } => Some(*file),
@@ -31,7 +31,7 @@ fn archive_of<'a>(job: &Job<'a>) -> Option<&'a str> {
     }
 }
 
-/// The status after a job. If it stopped, standard error gets its line and, if its archive was unavailable, a line that says why.
+/// The exit status after a job. Prints the line of a stop and, if its archive was unavailable, another that says why.
 fn print_done<J: ArchiveJobs>(
     rt: &HostRuntime,
     done: Result<(), &'static str>,
@@ -52,8 +52,9 @@ fn print_done<J: ArchiveJobs>(
     Ok(status)
 }
 
-/// Does the job that the arguments name on these streams; the first argument is the program's name. Returns the status of the process: 0; 1 if
-/// the job stopped, with a line on standard error; 2 if the arguments name no job, with the text from `clap`.
+/// Does the job that the arguments name; the first one is the program's name. Returns the exit status: 0 if the job
+/// was done, 1 if it stopped, 2 for a usage error or a request for help. Only `--version` also gives 0, and running
+/// out of memory 1.
 pub fn run_words<J: ArchiveJobs, I: Inlet, O: Outlet>(
     rt: &HostRuntime,
     archives: J,
@@ -76,7 +77,7 @@ pub fn run_words<J: ArchiveJobs, I: Inlet, O: Outlet>(
     }
 }
 
-/// Like [`run_words`], with the arguments of the process, standard input and standard output.
+/// Calls [`run_words`] with the process's arguments, standard input and standard output.
 pub fn run_program<J: ArchiveJobs>(rt: &HostRuntime, archives: J) -> io::Result<ExitCode> {
     let words = match words_of(rt, || life_command(rt.alloc())) {
         Ok(words) => words,

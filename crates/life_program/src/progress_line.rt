@@ -1,21 +1,21 @@
-//! A line of progress on a terminal.
+//! Progress on a terminal.
 
 use std::io::IsTerminal;
 use std::time::Instant;
 
-/// A line on standard error that is replaced at most once a second. Nothing is written if standard error is not a terminal, if there is no clock,
-/// or if a write fails.
+/// A line on standard error, replaced at most once a second. It stays empty if standard error is not a terminal or
+/// there is no clock. Failed writes are ignored.
 #[derive(Drop)]
 pub struct ProgressLine<'a> {
     rt: &'a HostRuntime,
-    /// When the work began, if the line is shown.
+    /// When the work began; `None` if no line is shown.
     began: Option<Instant>,
-    /// How many full seconds had passed when the line was last written; 0 if there is no line.
+    /// The full seconds that had passed when the line was last written; 0 if there is no line now.
     shown: u64,
 }
 
 impl<'a> ProgressLine<'a> {
-    /// The line of work that starts now. It is not written yet.
+    /// Starts the clock, and writes nothing yet.
     pub fn begin(rt: &'a HostRuntime) -> ProgressLine<'a> {
         let began = if rt.stderr().is_terminal() {
             Instant::now(rt).ok()
@@ -29,7 +29,7 @@ impl<'a> ProgressLine<'a> {
         }
     }
 
-    /// How many full seconds have passed, if it is time to write the line.
+    /// The full seconds that have passed, if the line should be written now.
     pub fn due(&self) -> Option<u64> {
         let began = self.began?;
         let seconds = began.elapsed(self.rt).ok()?.as_secs();
@@ -39,7 +39,7 @@ impl<'a> ProgressLine<'a> {
         Some(seconds)
     }
 
-    /// Replaces the line, after this many seconds.
+    /// Replaces the line. `seconds` comes from [`due`](ProgressLine::due).
     pub fn write(&mut self, seconds: u64, text: &str) {
         self.shown = seconds;
         let _written = eprint!(self.rt; "\r\x1b[K{text}");

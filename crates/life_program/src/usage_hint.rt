@@ -1,4 +1,4 @@
-//! The hint after a usage error if a file is named although the pattern comes on standard input.
+//! A hint after a usage error if the last argument seems to be a pattern file: patterns come on standard input.
 ghost use Rattle.life_program.specs.Job.{status_by, IsStatus};
 
 use crate::printing::print_fault;
@@ -8,12 +8,12 @@ use std::alloc::{AllocError, Global};
 use std::io;
 use std::process::ExitCode;
 
-/// Whether the character needs no quotes in a shell.
+/// Characters that need no quotes in a shell.
 fn is_plain(c: char) -> bool {
     c.is_ascii_alphanumeric() || matches!(c, '+' | ',' | '-' | '.' | '/' | ':' | '=' | '@' | '_')
 }
 
-/// Adds an argument as a shell reads it: in single quotes if it needs them.
+/// Adds an argument, in single quotes if a shell needs them.
 fn push_word(line: &mut String, word: &str) -> Result<(), AllocError> {
     if !word.is_empty() && word.chars().all(is_plain) {
         return line.push_str(word);
@@ -29,7 +29,7 @@ fn push_word(line: &mut String, word: &str) -> Result<(), AllocError> {
     line.push('\'')
 }
 
-/// The line for these arguments, whose pattern is in the file. `...` is for arguments that are still missing.
+/// The corrected command, with `< file`. `...` shows where arguments are missing.
 fn line_of(
     alloc: Global,
     words: &[String],
@@ -46,17 +46,17 @@ fn line_of(
     Ok(line)
 }
 
-/// Whether an argument may be the name of a file: it is neither an option nor a number.
+/// Neither an option nor a number.
 fn may_be_file(word: &str) -> bool {
     !word.starts_with('-') && word.parse::<u64>().is_err()
 }
 
-/// Whether an argument looks like the name of a file: it has a letter, and a dot or a slash.
+/// It has a letter, and a dot or a slash, unlike a mistyped number.
 fn looks_like_file(word: &str) -> bool {
     may_be_file(word) && word.contains(['.', '/']) && word.chars().any(|c| c.is_ascii_alphabetic())
 }
 
-/// These arguments with a number after them.
+/// Adds a number in place of the file, to see if the arguments are valid with it.
 fn with_number(alloc: Global, words: &[String]) -> Result<Vec<String>, AllocError> {
     let mut all = Vec::new(alloc);
     for word in words {
@@ -66,8 +66,8 @@ fn with_number(alloc: Global, words: &[String]) -> Result<Vec<String>, AllocErro
     Ok(all)
 }
 
-/// The last argument, if it may be a file that `clap` refused, the arguments before it, and whether these are all: then it is one too many,
-/// and otherwise it has the place of a number.
+/// The last argument, if it may be a file that `clap` refused, and the arguments before it. The flag is `true` if the
+/// file is one argument too many, and `false` if it is in the place of a number.
 fn refused_file<'a>(
     fault: &WordFault,
     words: &'a [String],
@@ -84,7 +84,7 @@ fn refused_file<'a>(
     }
 }
 
-/// The line for arguments with this fault, if the last one counts as the file of a job that reads a pattern.
+/// `None` if there is no hint to give.
 fn line_for<F>(
     alloc: Global,
     fault: &WordFault,
@@ -108,8 +108,8 @@ where
     }
 }
 
-/// Like [`print_fault`], for the arguments with the fault. If the last one counts as the file of a job that reads a pattern, a line shows the
-/// command with `<`.
+/// Like [`print_fault`]. If the last argument seems to be the file of a job that reads a pattern, another line shows
+/// the command with `<`.
 pub fn print_fault_of<F>(
     rt: &HostRuntime,
     fault: WordFault,
@@ -124,8 +124,8 @@ where
     let line = line_for(rt.alloc(), &fault, words, reads_pattern);
     let status = print_fault(rt, fault)?;
     if let Some(line) = line {
-        // If standard error fails, only the status can report it.
-        let _told = eprintln!(rt; "{line}");
+        // Ignored: if standard error fails, only the status can report it.
+        let _ignored = eprintln!(rt; "{line}");
     }
     Ok(status)
 }

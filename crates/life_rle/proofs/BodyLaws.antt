@@ -1,4 +1,4 @@
--- Reading a body byte by byte gives what its items give, whose places are sums over the items before them.
+-- Reading a body byte by byte agrees with its items, whose positions are sums over the items before them.
 use Rattle.std.proofs.Common.{◌≡◌, ℕ, ◌+◌, ◌<◌, ◌≤◌, Bool, true, false, cond, ◌||◌, List, [], ◌∷◌, ◌++◌, refl, ap, ◌∙◌}
 use Rattle.std.proofs.Common.{sym, arith, Option, Some, None, Result, Ok, Err, is_some, ltb, eqb, min, unwrap_or, subst}
 use Rattle.std.proofs.Common.{inl, inr}
@@ -8,7 +8,7 @@ use Rattle.std.proofs.lemmas.Bool.{cases_eq, cases_lt, ne_eqb, lt-ltb, le-ltb, l
 use Rattle.life_rle.specs.declared.rle_fault.RleFault.{RleFault}
 use Rattle.life_rle.specs.declared.rle_fault.RleFault.TheVariants.{BadCount, TooWide, NoEnd}
 use Rattle.life_rle.specs.Body.{Item, count_of, is_bad_number, is_end, row_after, column_after, run, placed_after}
-use Rattle.life_rle.specs.Body.{placed, items_after, fault_at, fault_at_tag, unless_faulty, judged_after}
+use Rattle.life_rle.specs.Body.{placed, items_after, fault_at, fault_at_tag, unless_faulty, checked_after}
 use Rattle.life_rle.specs.Body.{placed_unless_faulty, body_cells}
 use Rattle.life_rle.specs.BodyState.{Position, start, Step, goes, ends, fails, next_count, is_bad_count, moved, down}
 use Rattle.life_rle.specs.BodyState.{live, item_step, step, going, body_from}
@@ -98,16 +98,16 @@ fault_good : (before : List Item) (digits : List ℕ) (b : ℕ) → is_bad_count
 fault_good before digits b good =
     ap (λ t. cond t (Some BadCount) (fault_at_tag before (item_of digits b) (Some b))) (sym (bad_so_far digits) ∙ good)
 
-judged_is : (before items : List Item) (item : Item) → judged_after before (item ∷ items)
-    ≡ unless_faulty (fault_at before item) (cond (is_end item) (Ok before) (judged_after (before ++ item ∷ []) items))
-unfolding judged_after
+judged_is : (before items : List Item) (item : Item) → checked_after before (item ∷ items)
+    ≡ unless_faulty (fault_at before item) (cond (is_end item) (Ok before) (checked_after (before ++ item ∷ []) items))
+unfolding checked_after
 judged_is before items item = refl
 
 -- what follows an item that is read
 abbrev Agrees : List ℕ → Type 0
 Agrees bytes =
     (before : List Item) (digits : List ℕ)
-    → body_from (stands before digits) bytes ≡ placed_unless_faulty (judged_after before (items_after digits bytes))
+    → body_from (stands before digits) bytes ≡ placed_unless_faulty (checked_after before (items_after digits bytes))
 
 abbrev onward : List ℕ → Step → Result (List (ℕ × ℕ)) RleFault
 onward bytes s = going s (λ q. body_from q bytes)
@@ -115,7 +115,7 @@ onward bytes s = going s (λ q. body_from q bytes)
 abbrev answer : List Item → List Item → Item → Option RleFault → Result (List (ℕ × ℕ)) RleFault
 answer before items item fault =
     placed_unless_faulty (unless_faulty fault
-    (cond (is_end item) (Ok before) (judged_after (before ++ item ∷ []) items)))
+    (cond (is_end item) (Ok before) (checked_after (before ++ item ∷ []) items)))
 
 -- the item with this byte is read as its items say
 abbrev AtItem : List ℕ → List Item → List ℕ → ℕ → Type 0
@@ -199,8 +199,8 @@ at_byte_by bytes agrees before digits b h false good =
     ∙ sym (ap (λ f. answer before (items_after [] bytes) (item_of digits b) f) (fault_good before digits b good))
 
 at_file_end : (before : List Item) (digits : List ℕ)
-    → body_from (stands before digits) [] ≡ placed_unless_faulty (judged_after before (items_after digits []))
-unfolding body_from items_after judged_after
+    → body_from (stands before digits) [] ≡ placed_unless_faulty (checked_after before (items_after digits []))
+unfolding body_from items_after checked_after
 at_file_end before [] = refl
 at_file_end before (d ∷ ds) =
     elim (is_bad_number (count_of (d ∷ ds)))
@@ -224,7 +224,7 @@ items_byte digits b bytes h = rw h refl
 by_digit : (bytes : List ℕ) → Agrees bytes → (before : List Item) (digits : List ℕ) (b : ℕ)
     → (t : Bool) → is_ascii_digit b ≡ t →
     onward bytes (step (stands before digits) b)
-    ≡ placed_unless_faulty (judged_after before (items_after digits (b ∷ bytes)))
+    ≡ placed_unless_faulty (checked_after before (items_after digits (b ∷ bytes)))
 by_digit bytes agrees before digits b true h =
     ap (λ s. onward bytes s) (step_digit (stands before digits) b h)
     ∙ ap (λ c. body_from (let p : Position = record {
@@ -234,15 +234,15 @@ by_digit bytes agrees before digits b true h =
       cells = placed before;
     } in p) bytes) (so_far_push digits b h)
     ∙ agrees before (digits ++ b ∷ [])
-    ∙ sym (ap (λ items. placed_unless_faulty (judged_after before items)) (items_digit digits b bytes h))
+    ∙ sym (ap (λ items. placed_unless_faulty (checked_after before items)) (items_digit digits b bytes h))
 by_digit bytes agrees before digits b false h =
     at_byte_by bytes agrees before digits b h _ refl
     ∙ sym (ap placed_unless_faulty (judged_is before (items_after [] bytes) (item_of digits b)))
-    ∙ sym (ap (λ items. placed_unless_faulty (judged_after before items)) (items_byte digits b bytes h))
+    ∙ sym (ap (λ items. placed_unless_faulty (checked_after before items)) (items_byte digits b bytes h))
 
 -- Reading on from where an item stands is judging the items that are left.
 pub agrees_all : (bytes : List ℕ) (before : List Item) (digits : List ℕ)
-    → body_from (stands before digits) bytes ≡ placed_unless_faulty (judged_after before (items_after digits bytes))
+    → body_from (stands before digits) bytes ≡ placed_unless_faulty (checked_after before (items_after digits bytes))
 agrees_all [] before digits = at_file_end before digits
 agrees_all (b ∷ bytes) before digits =
     body_next (stands before digits) b bytes ∙ by_digit bytes (agrees_all bytes) before digits b _ refl

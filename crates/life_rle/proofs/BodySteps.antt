@@ -1,4 +1,4 @@
--- What the function of a step answered, and where it continues.
+-- The result of a step, and the position at which the body continues.
 use Rattle.std.proofs.Common.{◌≡◌, ℕ, ◌+◌, ◌<◌, suc, List, ◌∷◌, length, drop, get_or, refl, ap, ◌∙◌, sym, Result, Ok}
 use Rattle.std.proofs.Common.{Err, Bool, true, false, not, cond, subst, arith}
 use Rattle.std.proofs.Math.Seq.{drop-cons}

@@ -1,4 +1,4 @@
--- Reading from a stream: one more take, and the end.
+-- Reading from a stream: one more read, and the end.
 use Rattle.std.proofs.Common.{◌≡◌, ℕ, ◌<◌, ◌≤◌, ◌+◌, ◌-◌, List, [], ◌++◌, length, take, drop, ap, ◌∙◌, sym, subst}
 use Rattle.std.proofs.Common.{arith, Option, None, Some, Result, Ok, Err, cond, inr}
 use Rattle.std.proofs.lemmas.List.{append_assoc, take-append-drop, drop_at, take_at, length-drop, length-append}

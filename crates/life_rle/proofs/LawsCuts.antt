@@ -1,4 +1,4 @@
--- Nothing is lost where bytes are cut into lines, items and runs, and a header gives the size of the box.
+-- Cutting bytes into lines, items and runs loses no byte, and a header gives the size of the box.
 use Rattle.std.proofs.Common.{◌≡◌, ℕ, ◌<◌, ◌≤◌, ◌+◌, max, ℤ, nat_abs, Bool, true, false, cond, eqb, List, [], ◌∷◌, ◌++◌}
 use Rattle.std.proofs.Common.{map, replicate, Some, refl, ap, ◌∙◌, sym, subst, arith, add-one, inl, inr}
 use Rattle.std.specs.List.{AllByRecursion, flat_map, fold, join_with_byte}

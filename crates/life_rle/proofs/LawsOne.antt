@@ -1,4 +1,4 @@
--- Cells have one canonical body at most.
+-- Cells have at most one canonical body.
 use Rattle.std.proofs.Common.{◌≡◌, ◌≢◌, ℕ, zero, suc, ◌<◌, ◌≤◌, ◌+◌, ◌-◌, Bool, true, false, cond, eqb, List, [], ◌∷◌}
 use Rattle.std.proofs.Common.{◌++◌, length, map, replicate, refl, ap, ◌∙◌, sym, subst, arith, inl, inr}
 use Rattle.std.specs.List.{AllByRecursion, flat_map}

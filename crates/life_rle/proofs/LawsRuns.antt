@@ -1,5 +1,5 @@
--- The runs of a canonical body: what their tags are, that they end in live cells, how great their counts are, and the
--- cells that they place.
+-- The runs of a canonical body: their tags, the bound of their counts, the cells that they place, and that the last run
+-- is live.
 use Rattle.std.proofs.Common.{◌≡◌, ◌≢◌, ℕ, zero, suc, ◌<◌, ◌≤◌, ◌+◌, ◌-◌, ◌^◌, Bool, true, false, cond, eqb, List, []}
 use Rattle.std.proofs.Common.{◌∷◌, ◌++◌, length, map, replicate, Some, None, refl, ap, ◌∙◌, sym, subst, arith, inl, inr}
 use Rattle.std.specs.List.{AllByRecursion, flat_map}

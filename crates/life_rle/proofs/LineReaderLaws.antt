@@ -1,5 +1,4 @@
--- Reading line by line gives what the lines are read as: one more line before the header, the header, and the end
--- before it.
+-- Reading line by line agrees with the definition: one more line before the header, the header, and an end before it.
 use Rattle.std.proofs.Common.{◌≡◌, ℕ, suc, ◌+◌, Bool, true, false, not, cond, List, [], ◌∷◌, take, drop, map, refl, ap}
 use Rattle.std.proofs.Common.{◌∙◌, sym, subst, arith, Result, Ok, Err, Option, inl, inr}
 use Rattle.std.specs.List.{All, flat_map, position_or_len}

@@ -1,4 +1,4 @@
--- A text without the blanks at its ends has none, and bytes up to a line end are a line.
+-- A trimmed text has no blanks at its ends, and the bytes up to a line feed are a line.
 use Rattle.std.proofs.Common.{◌≡◌, ℕ, suc, ◌<◌, Bool, true, false, cond, eqb, List, [], ◌∷◌, ◌++◌, reverse, length}
 use Rattle.std.proofs.Common.{get_or, refl, ap, ◌∙◌, sym, subst, arith}
 use Rattle.std.specs.List.{AllByRecursion}

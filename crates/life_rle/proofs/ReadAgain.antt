@@ -1,4 +1,4 @@
--- What is read keeps a rule and a box of 1024 by 1024, so its text is read as it again.
+-- A record that is read has a valid rule and fits in 1024 by 1024, so its text is read as the same record.
 use Rattle.std.proofs.Common.{◌≡◌, ℕ, ◌+◌, ◌-◌, ◌≤◌, zero, suc, Bool, true, false, cond, ◌&&◌, ◌||◌, nat_le, nat_lt}
 use Rattle.std.proofs.Common.{nat_eq, List, [], ◌∷◌, ◌++◌, length, map, refl, ap, ◌∙◌, sym, subst, arith, Option, None}
 use Rattle.std.proofs.Common.{Some, Result, Ok, Err, inl, inr, if◌then◌else◌}
@@ -12,7 +12,7 @@ use Rattle.life_core.specs.declared.rule_text.RuleFault.{RuleFault}
 use Rattle.life_core.specs.declared.rule_text.RuleFault.TheVariants.{BirthZero}
 use Rattle.life_core.specs.RuleText.{is_count_digit, AreCountDigits, HasRuleForm, RuleDigits, normalized_text}
 use Rattle.life_core.specs.RuleText.{digits_by_form, counts_of_digits, rule_of_digits, read_rule, without_blanks}
-use Rattle.life_core.specs.RuleText.HasRuleForm.{birth_first, survival_first, digits_alone}
+use Rattle.life_core.specs.RuleText.HasRuleForm.{birth_first, survival_first, bare_digits}
 use Rattle.life_core.proofs.RuleTextForms.{digits_by_form-spells}
 use Rattle.life_rle.specs.declared.rle_fault.RleFault.{RleFault}
 use Rattle.life_rle.specs.declared.rle_fault.RleFault.TheVariants.{TooLong, TextLimit, BadCount, TooWide}
@@ -21,7 +21,7 @@ use Rattle.life_rle.specs.RleLines.{lines_of}
 use Rattle.life_rle.specs.Notes.{Notes, no_notes, notes_of, is_past_limit}
 use Rattle.life_rle.specs.Header.{header_rule}
 use Rattle.life_rle.specs.Body.{Item, count, is_end, has_tag, is_counted, is_bad_number, row_after, column_after, run}
-use Rattle.life_rle.specs.Body.{cells_at, placed, placed_after, fault_at, fault_at_tag, unless_faulty, judged_after}
+use Rattle.life_rle.specs.Body.{cells_at, placed, placed_after, fault_at, fault_at_tag, unless_faulty, checked_after}
 use Rattle.life_rle.specs.Body.{placed_unless_faulty, items_of, body_cells, IsPlaced}
 use Rattle.life_rle.specs.Record.{Contents, IsInside}
 use Rattle.life_rle.specs.File.{cell_of, front_lines, header_lines, chosen_rule, body_part, contents, after_front}
@@ -55,7 +55,7 @@ digits_of_form : {text births survivals : List ℕ} → HasRuleForm text births 
     → AreCountDigits births × AreCountDigits survivals
 digits_of_form (birth_first slash b s) = (b, s)
 digits_of_form (survival_first slash b s) = (b, s)
-digits_of_form (digits_alone b s) = (b, s)
+digits_of_form (bare_digits b s) = (b, s)
 
 rule_by : (births survivals : List ℕ) → AreCountDigits births → AreCountDigits survivals → (b : Bool)
     → set.contains (counts_of_digits births) 0 ≡ b → (r : RuleSets)
@@ -140,10 +140,10 @@ item_inside before item true none = absurd cc
 item_inside before item false none = tag_inside before item item.tag none
 
 after_item : (before items out : List Item) (item : Item) → AllInside (placed before)
-    → (AllInside (placed (before ++ item ∷ [])) → judged_after (before ++ item ∷ []) items ≡ Ok out
+    → (AllInside (placed (before ++ item ∷ [])) → checked_after (before ++ item ∷ []) items ≡ Ok out
     → AllInside (placed out))
     → (b : Bool) → fault_at before item ≡ None
-    → (if b then Ok before else judged_after (before ++ item ∷ []) items) ≡ Ok out → AllInside (placed out)
+    → (if b then Ok before else checked_after (before ++ item ∷ []) items) ≡ Ok out → AllInside (placed out)
 after_item before items out item all rest true none ok =
     let same : before ≡ out = cc in subst (λ is. AllInside (placed is)) same all
 after_item before items out item all rest false none ok =
@@ -151,26 +151,26 @@ after_item before items out item all rest false none ok =
     (item_inside before item (is_counted item && is_bad_number (count item)) none))) ok
 
 by_fault : (before items out : List Item) (item : Item) → AllInside (placed before)
-    → (AllInside (placed (before ++ item ∷ [])) → judged_after (before ++ item ∷ []) items ≡ Ok out
+    → (AllInside (placed (before ++ item ∷ [])) → checked_after (before ++ item ∷ []) items ≡ Ok out
     → AllInside (placed out))
     → (o : Option RleFault) → fault_at before item ≡ o
-    → unless_faulty o (if is_end item then Ok before else judged_after (before ++ item ∷ []) items) ≡ Ok out
+    → unless_faulty o (if is_end item then Ok before else checked_after (before ++ item ∷ []) items) ≡ Ok out
     → AllInside (placed out)
 by_fault before items out item all rest (Some fault) fails ok = absurd cc
 by_fault before items out item all rest None none ok = after_item before items out item all rest (is_end item) none ok
 
-judged_inside : (before items out : List Item) → AllInside (placed before) → judged_after before items ≡ Ok out
+judged_inside : (before items out : List Item) → AllInside (placed before) → checked_after before items ≡ Ok out
     → AllInside (placed out)
-unfolding judged_after
+unfolding checked_after
 judged_inside before [] out all is = absurd cc
 judged_inside before (item ∷ items) out all is =
     by_fault before items out item all (judged_inside (before ++ item ∷ []) items out) (fault_at before item) refl is
 
 body_inside : (body : List ℕ) (cells : List (ℕ × ℕ)) → body_cells body ≡ Ok cells → AllInside cells
 unfolding body_cells placed_after
-body_inside body cells is = by (judged_after [] (items_of body)) refl is
+body_inside body cells is = by (checked_after [] (items_of body)) refl is
   where
-    by : (r : Result (List Item) RleFault) → judged_after [] (items_of body) ≡ r → placed_unless_faulty r ≡ Ok cells
+    by : (r : Result (List Item) RleFault) → checked_after [] (items_of body) ≡ r → placed_unless_faulty r ≡ Ok cells
         → AllInside cells
     by (Err fault) judged ok = absurd cc
     by (Ok items) judged ok =

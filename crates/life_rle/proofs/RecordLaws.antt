@@ -1,5 +1,5 @@
--- What a file is read as is a record: its texts are within their limits, without line ends and without blanks at their
--- ends.
+-- A file that is read gives a valid record: its texts are within their limits, without line feeds and without blanks
+-- at their ends.
 use Rattle.std.proofs.Common.{◌≡◌, ◌≢◌, ℕ, zero, suc, Bool, true, false, cond, eqb, ltb, not, ◌||◌, List, [], ◌∷◌, ◌++◌}
 use Rattle.std.proofs.Common.{length, reverse, take, drop, nat_eq, map, refl, sym, subst, Option, Some, None, is_some}
 use Rattle.std.proofs.Common.{Result, Ok, Err, arith}

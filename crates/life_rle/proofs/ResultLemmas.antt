@@ -1,4 +1,4 @@
--- Answers of calls, whatever these are about.
+-- Results of calls, of any type.
 use Rattle.std.specs.Prelude.{Result, Ok, Err, OnOk, OnErr}
 
 -- what holds after an Ok and after an Err

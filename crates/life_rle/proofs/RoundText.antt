@@ -1,4 +1,4 @@
--- What is written is read as the record again.
+-- The text of a record is read as the same record.
 use Rattle.std.specs.Prelude.{codes, slice_index}
 use Rattle.std.proofs.Common.{◌≡◌, ℕ, ◌≤◌, ◌+◌, false, cond, ◌||◌, max, List, [], ◌∷◌, ◌++◌, length, drop, refl, ap}
 use Rattle.std.proofs.Common.{◌∙◌, sym, arith, Option, Some, None, Ok, Err, nat_eq}

@@ -1,4 +1,4 @@
--- Bytes taken and put one after another.
+-- Several reads, or several writes, one after another.
 use Rattle.std.proofs.Common.{◌≡◌, ℕ, ◌+◌, List, [], ◌++◌, length, take, drop, Option, None, Some, refl, ◌∙◌, sym, ap}
 use Rattle.std.proofs.Common.{append_assoc, append-nil, ◌-◌, ◌≤◌, ◌≢◌, zero, suc, inr, Ok, arith}
 use Rattle.std.proofs.lemmas.Grind.{common_steps}

@@ -22,7 +22,7 @@ items_after digits (b ∷ bytes) =
     if is_ascii_digit b then items_after (digits ++ b ∷ []) bytes
     else record { digits = digits; tag = Some b } ∷ items_after [] bytes
 
--- the items of a body
+-- the items of a body; `12bo!` has `12b`, `o`, `!`, and at the end an item without a byte
 abbrev pub items_of : List ℕ → List Item
 items_of body = items_after [] body
 
@@ -64,7 +64,7 @@ count item = count_of item.digits
 unfoldable pub row_after : List Item → ℕ
 row_after before = sum_by count (filter is_row_end before)
 
--- its column: the sum of the counts of the dead and live items between the last row end before it and itself
+-- the column of an item: the sum of the counts of the dead and live items between the last row end and the item
 unfoldable pub column_after : List Item → ℕ
 column_after before = sum_by count (filter (λ i. is_dead i || is_live i) (after_last is_row_end before))
 
@@ -114,25 +114,25 @@ fault_at before item =
     if is_counted item && is_bad_number (count item) then Some BadCount
     else fault_at_tag before item item.tag
 
--- the fault, or the answer if there is none
+-- the fault if there is one, otherwise the answer
 abbrev pub unless_faulty : {X : Type 0} → Option RleFault → Result X RleFault → Result X RleFault
 unless_faulty (Some fault) answer = Err fault
 unless_faulty None answer = answer
 
 -- the items before the first `!`, or the fault of the first faulty one
-unfoldable pub judged_after : List Item → List Item → Result (List Item) RleFault
-judged_after before [] = Err NoEnd
-judged_after before (item ∷ items) =
-    unless_faulty (fault_at before item) (if is_end item then Ok before else judged_after (before ++ item ∷ []) items)
+unfoldable pub checked_after : List Item → List Item → Result (List Item) RleFault
+checked_after before [] = Err NoEnd
+checked_after before (item ∷ items) =
+    unless_faulty (fault_at before item) (if is_end item then Ok before else checked_after (before ++ item ∷ []) items)
 
 -- the cells of items that have no fault
 abbrev pub placed_unless_faulty : Result (List Item) RleFault → Result (List (ℕ × ℕ)) RleFault
 placed_unless_faulty (Ok items) = Ok (placed items)
 placed_unless_faulty (Err fault) = Err fault
 
--- the cells that a body places, or its first fault
+-- the cells that a body places, or its first fault; `bo$2o!` places (1, 0), (0, 1) and (1, 1)
 unfoldable pub body_cells : List ℕ → Result (List (ℕ × ℕ)) RleFault
-body_cells body = placed_unless_faulty (judged_after [] (items_of body))
+body_cells body = placed_unless_faulty (checked_after [] (items_of body))
 
 -- a cell in the columns and rows 0 to 1023
 pub record IsPlaced (c : Cell) : Type 0 where

@@ -1,4 +1,4 @@
--- Reading a body byte by byte: the position of the next item, and what the body is read as if these bytes are left.
+-- Reading a body byte by byte: the position of the next item, and the result if these bytes remain.
 use Rattle.std.specs.Prelude.{◌≡◌, map, ℕ, ◌+◌, ◌*◌, ◌-◌, min, Bool, true, false, not, ◌||◌, ◌==◌, nat_lt}
 use Rattle.std.specs.Prelude.{if◌then◌else◌, List, [], ◌∷◌, ◌++◌, Option, Some, None, is_some, unwrap_or, Result, Ok}
 use Rattle.std.specs.Prelude.{Err, MatchResult}
@@ -21,11 +21,11 @@ pub record Position : Type 0 where
   pub count : Option ℕ
   pub cells : List (ℕ × ℕ)
 
--- where a body starts
+-- the position before the first item
 abbrev pub start : Position
 start = record { row = 0; column = 0; count = None; cells = [] }
 
--- a byte leads to a place, to the end with its cells, or to a fault
+-- the effect of a byte: a new position, the end with the cells, or a fault
 pub data Step : Type 0 where
   goes : Position → Step
   ends : List (ℕ × ℕ) → Step
@@ -61,7 +61,7 @@ item_step p n b =
     else (if nat_lt 1024 (p.column + n) || nat_lt 1023 p.row then fails TooWide
     else goes (live p n))))
 
--- what the next byte leads to
+-- the effect of the next byte
 unfoldable pub step : Position → ℕ → Step
 step p b =
     if is_ascii_digit b then goes (record p { count = Some (next_count p.count b) })
@@ -69,8 +69,8 @@ step p b =
     else (if b == end_tag then (if is_some p.count then fails BadCount else ends p.cells)
     else item_step p (unwrap_or p.count 1) b))
 
--- What the function of a step returned, with the place that it left. If there is a place to continue at, memory may run
--- out.
+-- the result of the function that reads a byte, and the position after it; only a step that continues may run out of
+-- memory
 abbrev pub Took : Step → Position → Result Bool RleFault → Type 0
 Took (goes q) new answer = MatchResult answer (λ ended. (ended ≡ false) × (new ≡ q)) (λ e. e ≡ Memory)
 Took (ends cells) new answer = (answer ≡ Ok true) × (new.cells ≡ cells)
@@ -82,27 +82,27 @@ Acts (goes q) new answer = MatchResult answer (λ _. new ≡ q) (λ e. e ≡ Mem
 Acts (ends cells) new answer = ⊥
 Acts (fails fault) new answer = answer ≡ Err fault
 
--- what follows from where a step leads to
+-- continues after a step, unless it ends the body or fails
 abbrev pub going : Step → (Position → Result (List (ℕ × ℕ)) RleFault) → Result (List (ℕ × ℕ)) RleFault
 going (goes q) next = next q
 going (ends cells) next = Ok cells
 going (fails fault) next = Err fault
 
--- the cells that a body places from here on, with those so far, or its first fault
+-- the cells so far and the cells that these bytes of the body place, or the first fault
 unfoldable pub body_from : Position → List ℕ → Result (List (ℕ × ℕ)) RleFault
 body_from p [] = if is_some p.count then Err BadCount else Err NoEnd
 body_from p (b ∷ bytes) = going (step p b) (λ q. body_from q bytes)
 
--- what a body so far means
+-- the position that the code has reached
 abbrev pub place_reached : {A : Type 0} → Body A → Position
 place_reached b = record { row = b.row; column = b.column; count = b.count; cells = map coordinates b.cells }
 
--- the cells or the fault by how far the body has come, if these bytes are what is left
+-- the cells or the fault, by the progress so far, if these bytes remain
 abbrev pub outcome_at : Progress → Position → List ℕ → Result (List (ℕ × ℕ)) RleFault
 outcome_at More p rest = body_from p rest
 outcome_at Ended p rest = Ok p.cells
 outcome_at (Failed fault) p rest = Err fault
 
--- the cells or the fault, if these bytes are what is left
+-- the cells or the fault, if these bytes remain
 abbrev pub outcome : {A : Type 0} → BodyReader A → List ℕ → Result (List (ℕ × ℕ)) RleFault
 outcome r rest = outcome_at r.progress (place_reached r.body) rest

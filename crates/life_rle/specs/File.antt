@@ -1,4 +1,4 @@
--- What a file is read as: a record, or its first fault (LifeWiki, "Run Length Encoded"; Golly's help, "File formats").
+-- Reading a file: its record, or its first fault (LifeWiki, "Run Length Encoded"; Golly's help, "File formats").
 use Rattle.std.specs.Prelude.{ℕ, pos, map, List, [], ◌∷◌, length, take, drop, nat_lt, if◌then◌else◌, Option, Some, None}
 use Rattle.std.specs.Prelude.{Result, Ok, Err}
 use Rattle.std.specs.List.{flat_map, position_or_len}
@@ -25,13 +25,13 @@ front_lines lines = take (position_or_len is_header lines) lines
 abbrev pub header_lines : List (List ℕ) → List (List ℕ)
 header_lines lines = drop (position_or_len is_header lines) lines
 
--- the rule: the text of the header if it has one, else that of the first `#r` line, else Life
+-- the rule: the header's if it gives one, else the rule of the first `#r` line, else Life
 abbrev pub chosen_rule : Option (List ℕ) → Option (List ℕ) → Result RuleSets RleFault
 chosen_rule (Some text) noted = in_file (read_rule text)
 chosen_rule None (Some text) = in_file (read_rule text)
 chosen_rule None None = Ok life
 
--- the part of the body that a line is
+-- the bytes that a line adds to the body: none if it is marked with `#`
 abbrev pub body_part : List ℕ → List ℕ
 body_part line = if is_mark_line line then [] else without_blanks line
 
@@ -51,7 +51,7 @@ contents notes rule cells =
       cells = normal (set.from_list (map cell_of cells));
     }
 
--- what the lines from the header on are read as, by the texts before them
+-- the result of the lines from the header on, with the texts before them
 unfoldable pub after_front : Notes → List (List ℕ) → Result Contents RleFault
 after_front notes [] = Err NoHeader
 after_front notes (line ∷ lines) = do
@@ -60,16 +60,16 @@ after_front notes (line ∷ lines) = do
   cells ← body_cells (flat_map body_part lines)
   Ok (contents notes rule cells)
 
--- what lines are read as, after the texts that the lines before them left
+-- the result of these lines, if the lines before them left the texts `before`
 unfoldable pub read_lines : Notes → List (List ℕ) → Result Contents RleFault
 read_lines before lines =
     let notes = notes_of before (front_lines lines) in
     if is_past_limit notes then Err TextLimit else after_front notes (header_lines lines)
 
--- what a file is read as where its length plays no part
+-- the record, or the first fault, of a file of any length
 unfoldable pub kept : List ℕ → Result Contents RleFault
 kept bytes = read_lines no_notes (lines_of bytes)
 
--- what a file is read as: one of more than 1,048,576 bytes is too long
+-- the record, or the first fault, of a file; more than 1,048,576 bytes (1 MiB) are too long
 unfoldable pub file : List ℕ → Result Contents RleFault
 file bytes = if nat_lt 1048576 (length bytes) then Err TooLong else kept bytes

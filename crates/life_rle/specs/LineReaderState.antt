@@ -1,4 +1,4 @@
--- A file that is being read line by line: what it is read as, if these lines are what is left.
+-- A file that is being read line by line: its result, if these lines remain.
 use Rattle.std.specs.Prelude.{ℕ, List, Result, Ok, Err, if◌then◌else◌}
 use Rattle.std.specs.List.{flat_map}
 use Rattle.life_core.specs.Rule.{RuleSets}
@@ -22,13 +22,13 @@ front_rule notes text =
       given ← header_rule text
       chosen_rule given notes.rule
 
--- what the file is read as by how far it has come, if these lines are what is left
+-- the record or the first fault, by the stage, if these lines remain
 abbrev pub resumed_at : {A : Type 0} → Stage → LineReader A → List (List ℕ) → Result Contents RleFault
 resumed_at stages.Front r lines = read_lines (notes r.notes) lines
 resumed_at stages.Body r lines =
     outcome r.body (flat_map body_part lines) >>= λ cells. Ok (contents (notes r.notes) r.rule cells)
 resumed_at (stages.Failed fault) r lines = Err fault
 
--- what the file is read as, if these lines are what is left
+-- the record or the first fault, if these lines remain
 abbrev pub resumed : {A : Type 0} → LineReader A → List (List ℕ) → Result Contents RleFault
 resumed r lines = resumed_at r.stage r lines

@@ -1,4 +1,4 @@
--- What the lines before the header say: a name, an author, comments and a rule (LifeWiki, "Run Length Encoded").
+-- The texts in the lines before the header: a name, an author, comments and a rule (LifeWiki, "Run Length Encoded").
 use Rattle.std.specs.Prelude.{ℕ, Bool, true, false, ◌||◌, List, [], ◌∷◌, ◌++◌, length, ◌==◌, nat_lt, if◌then◌else◌}
 use Rattle.std.specs.Prelude.{Option, Some, None, is_some}
 use Rattle.std.specs.List.{fold, list_any}
@@ -20,8 +20,8 @@ no_notes = record { name = None; author = None; comments = []; rule = None }
 abbrev pub with_comment : Notes → List ℕ → Notes
 with_comment notes text = record notes { comments = notes.comments ++ text ∷ [] }
 
--- The first name and the first author are kept, later ones as comments, and empty ones not at all; the first rule alone
--- is kept.
+-- the texts after one more line: later names and authors become comments; later rules are dropped, and so are empty
+-- names, authors and rules
 abbrev pub with_line : Notes → Line → Notes
 with_line notes passed = notes
 with_line notes (named text) =
@@ -56,7 +56,7 @@ notes_of notes lines = fold (λ n line. with_line n (line_kind line)) notes line
 abbrev pub is_long : List ℕ → Bool
 is_long text = nat_lt 200 (length text)
 
--- a text that is there, of more than 200 bytes
+-- whether there is a text, of more than 200 bytes
 abbrev pub is_long_text : Option (List ℕ) → Bool
 is_long_text None = false
 is_long_text (Some text) = is_long text
@@ -67,6 +67,6 @@ is_past_limit notes =
     is_long_text notes.name || is_long_text notes.author || list_any is_long notes.comments
     || nat_lt 64 (length notes.comments)
 
--- the texts that the code has so far
+-- the code's texts as a value of `Notes`
 abbrev pub notes : {A : Type 0} → code.Notes A → Notes
 notes n = record { name = n.name; author = n.author; comments = n.comments; rule = n.rule }

@@ -1,4 +1,4 @@
--- Records: what a pattern file holds (LifeWiki, "Run Length Encoded").
+-- Records: the contents of pattern files (LifeWiki, "Run Length Encoded").
 use Rattle.std.specs.Prelude.{◌≡◌, ◌≢◌, ◌≤◌, ℕ, ◌-◌, false, ◌==◌, List, [], length, Option, Some, None, refl}
 use Rattle.std.specs.Coded.{Coded, code_by, coded×, coded_ℕ, coded_list, coded_option}
 use Rattle.std.specs.List.{AllByRecursion}
@@ -35,12 +35,12 @@ pub record IsText (bytes : List ℕ) : Type 0 where
   pub line : HasNoLineEnd bytes
   pub trimmed : trim bytes ≡ bytes
 
--- a name or an author that is there is a text, and not empty
+-- a name or an author, if there is one, is a nonempty text
 abbrev pub IsName : Option (List ℕ) → Type 0
 IsName None = Unit {0}
 IsName (Some bytes) = IsText bytes × (length bytes ≢ 0)
 
--- the invariant of records: its texts are texts, at most 64 of them comments, and its cells are normal
+-- the invariant of records: valid texts, at most 64 comments, and normal cells
 pub record IsRecord (r : Contents) : Type 0 where
   pub name : IsName r.name
   pub author : IsName r.author

@@ -1,4 +1,4 @@
--- Why a file is not read or written: the faults, their numbers and names, and what a function that reads may answer.
+-- Faults of reading and writing files: their numbers and names, and the results that a function that reads may give.
 use Rattle.std.specs.Prelude.{◌≡◌, ◌⊎◌, ℕ, List, codes, Result, Ok, Err}
 use Rattle.life_core.specs.CoreFault.{Label, label}
 use Rattle.life_core.specs.declared.rule_text.RuleFault.{RuleFault}
@@ -13,7 +13,7 @@ use Rattle.life_rle.specs.declared.rle_fault.WriteFault.{WriteFault}
 use Rattle.life_rle.specs.declared.rle_fault.WriteFault.TheVariants.{Unwritable}
 use Rattle.life_rle.specs.declared.rle_fault.WriteFault.TheVariants as write_faults
 
--- the number and the name of each fault, in the order in which they are judged; the last may come at any point
+-- the number and the name of each fault, in the order in which they are checked; out of memory may occur at any point
 abbrev pub label_of : RleFault → Label
 label_of TooLong = label 1 (codes "too-long")
 label_of TextLimit = label 2 (codes "text-limit")
@@ -33,7 +33,7 @@ fault_number fault = (label_of fault).number
 abbrev pub fault_name : RleFault → List ℕ
 fault_name fault = (label_of fault).name
 
--- the numbers of the file's faults, and after them that of a take that failed
+-- a file's faults have their own numbers, and a failed read has the next one
 abbrev pub read_fault_number : ReadFault → ℕ
 read_fault_number (Rle fault) = fault_number fault
 read_fault_number Unreadable = 12
@@ -47,22 +47,22 @@ abbrev pub fault_of_rule : RuleFault → RleFault
 fault_of_rule rule_faults.BadRule = BadRule
 fault_of_rule rule_faults.BirthZero = BirthZero
 
--- an answer, with its fault as one of a file
+-- a result about a rule, with its fault as a fault of the file
 abbrev pub in_file : {X : Type 0} → Result X RuleFault → Result X RleFault
 in_file (Ok x) = Ok x
 in_file (Err fault) = Err (fault_of_rule fault)
 
 infixl 10 ◌>>=◌
--- the first fault, or what follows from what was read
+-- continues with the value that was read; a fault ends the reading
 abbrev pub ◌>>=◌ : {A B : Type 0} → Result A RleFault → (A → Result B RleFault) → Result B RleFault
 (Err fault) >>= f = Err fault
 (Ok x) >>= f = f x
 
--- a fault that is answered is that of the reading, unless memory ran out
+-- the fault is out of memory, or the one that `read` has
 abbrev pub Fails : {X : Type 0} → RleFault → Result X RleFault → Type 0
 Fails fault read = (fault ≡ Memory) ⊎ (read ≡ Err fault)
 
--- a function answers what the reading is, unless memory ran out
+-- the result of a function is `read`, unless memory ran out
 abbrev pub Gives : {X : Type 0} → Result X RleFault → Result X RleFault → Type 0
 Gives (Ok x) read = read ≡ Ok x
 Gives (Err fault) read = Fails fault read

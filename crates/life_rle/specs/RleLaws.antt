@@ -1,6 +1,5 @@
--- What makes the definitions of files believable: what a canonical body is and what the lines before the header leave,
--- said without the way in which they are computed; whatever is read is a record, and what is written is read as the
--- record again.
+-- Laws that make the definitions of files believable. They describe canonical bodies, and the texts before a header,
+-- independently of how they are computed. Reading gives records, and reverses writing.
 use Rattle.std.specs.Prelude.{◌≡◌, ◌≢◌, ◌↔◌, ◌⊎◌, ◌≤◌, ◌<◌, ◌+◌, ◌^◌, ℕ, codes, ℤ, Bool, true, false, ◌||◌}
 use Rattle.std.specs.Prelude.{if◌then◌else◌, List, [], ◌∷◌, ◌++◌, length, replicate, map, Option, Some, None, Ok}
 use Rattle.std.specs.List.{AllByRecursion, flat_map, filter, find, join_with_byte}
@@ -55,7 +54,7 @@ RunsAreLongest =
     (tags : List ℕ) → (flat_map (λ (run : ℕ × ℕ). replicate run.0 run.1) (runs_of tags) ≡ tags)
     × AreMaximalRuns (runs_of tags)
 
--- The width and the height that a header gives are those of the box of the record's cells.
+-- The header of a record's text has the width and height of the box of the record's cells.
 abbrev pub HeadersGiveTheBox : Type 0
 HeadersGiveTheBox =
     (r : Contents) (left top : ℤ) (width height : ℕ) → IsRecord r → IsBox r.cells left top width height
@@ -68,7 +67,7 @@ pub record IsNumber (text : List ℕ) : Type 0 where
   pub some : 1 ≤ length text
   pub digits : AllByRecursion (λ b. is_ascii_digit b ≡ true) text
 
--- what follows the height: nothing, or `,rule=` and a rule text
+-- the end of a header after its height: empty, or `,rule=` and a rule text
 abbrev pub IsRuleEnd : Option (List ℕ) → List ℕ → Type 0
 IsRuleEnd None end = end ≡ []
 IsRuleEnd (Some rule) end = (words : List ℕ) × (map to_ascii_lowercase words ≡ codes ",rule=") × (end ≡ words ++ rule)
@@ -88,13 +87,13 @@ pub record HasHeaderForm (text : List ℕ) (rule : Option (List ℕ)) : Type 0 w
   pub height_is : IsNumber height
   pub rule_is : IsRuleEnd rule end
 
--- A header is read as its rule text exactly if it has the form.
+-- A header is read as its rule text exactly when it has the form.
 abbrev pub HeadersAreRead : Type 0
 HeadersAreRead = (text : List ℕ) (rule : Option (List ℕ)) → (header_form text ≡ Some rule) ↔ HasHeaderForm text rule
 
 -- ---- canonical bodies
 
--- the characters of these runs: of each its count, which is left out if it is 1, and its tag
+-- the characters of these runs: the count of each, unless it is 1, and its tag
 abbrev pub spelled_runs : List (ℕ × ℕ) → List ℕ
 spelled_runs runs = flat_map item_text runs
 
@@ -120,21 +119,21 @@ EndInLiveCells [] = Unit {0}
 EndInLiveCells (run ∷ []) = run.1 ≡ live_tag
 EndInLiveCells (run ∷ next ∷ runs) = (run.1 ≡ dead_tag → next.1 ≢ row_end_tag) × EndInLiveCells (next ∷ runs)
 
--- a body that is canonical, of these cells
+-- a canonical body of these cells
 pub record IsCanonical (cells : List (ℕ × ℕ)) (body : List ℕ) : Type 0 where
-  -- it is lines of runs with `!` after the last, and each line is as full as it can be
+  -- it consists of lines of runs with `!` after the last run, and each line is as full as it can be
   pub lines : List (List (ℕ × ℕ))
   pub runs : List (ℕ × ℕ)
   pub spells : body ≡ flat_map (λ line. spelled_runs line ++ codes "\n") lines
   pub ends : flat_map (λ line. line) lines ≡ runs ++ (1, 33) ∷ []
   pub full : AreFull lines
-  -- the runs are of row ends, dead and live cells, counted in 64 bits; no two neighbours could be one, and none is
-  -- there in vain
+  -- the runs are of row ends, dead and live cells, counted in 64 bits; no two neighbours could be one, and no run is
+  -- superfluous
   pub kinds : AllByRecursion (λ run. IsTag run.1) runs
   pub counts : AllByRecursion (λ run. run.0 < 2 ^ 64) runs
   pub apart : AreMaximalRuns runs
   pub live_end : EndInLiveCells runs
-  -- read back they place these cells and no other
+  -- read back, they place exactly these cells
   pub cells_back : placed (items_of (spelled_runs runs)) ≡ cells
 
 -- the body with which the text of a record ends
@@ -146,7 +145,7 @@ abbrev pub BodiesAreCanonical : Type 0
 BodiesAreCanonical =
     (r : Contents) → IsRecord r → IsWithin PLANE r.cells → IsCanonical (pairs_of r.cells) (body_of_record r)
 
--- .. and cells have one canonical body at most, so that what is said of it here is all of it.
+-- .. and cells have at most one canonical body, so these conditions determine it.
 abbrev pub OneCanonicalBody : Type 0
 OneCanonicalBody =
     (cells : List (ℕ × ℕ)) (body other : List ℕ) → IsCanonical cells body → IsCanonical cells other → body ≡ other
@@ -158,17 +157,17 @@ abbrev pub is_name : Line → Bool
 is_name (named (b ∷ text)) = true
 is_name line = false
 
--- .. an author: `#O` and such a text
+-- whether a line gives an author: `#O` and a text that is not empty
 abbrev pub is_author : Line → Bool
 is_author (authored (b ∷ text)) = true
 is_author line = false
 
--- .. a rule: `#r` and such a text
+-- whether a line gives a rule: `#r` and a text that is not empty
 abbrev pub is_rule : Line → Bool
 is_rule (ruled (b ∷ text)) = true
 is_rule line = false
 
--- .. a comment: `#C` or `#c`
+-- whether a line gives a comment: `#C` or `#c`, with or without a text
 abbrev pub is_comment : Line → Bool
 is_comment (comment text) = true
 is_comment line = false
@@ -198,7 +197,7 @@ pub record AreTextsOf (lines : List Line) (name author : Option (List ℕ)) (com
   pub others : comments ≡ map text_of_line (without_first is_name
       (without_first is_author (filter (λ line. is_name line || is_author line || is_comment line) lines)))
 
--- What is kept of lines is their texts and the first rule ..
+-- Lines before a header leave their texts and the first rule ..
 abbrev pub NotesAreTheLines : Type 0
 NotesAreTheLines =
     (lines : List (List ℕ)) → let notes = notes_of no_notes lines in
@@ -213,7 +212,7 @@ TextsAreTheFile =
 
 -- ---- reading and writing
 
--- Whatever bytes are read as is a record.
+-- Bytes that are read without a fault give a valid record.
 abbrev pub RecordsAreRead : Type 0
 RecordsAreRead = (bytes : List ℕ) (r : Contents) → kept bytes ≡ Ok r → IsRecord r
 
@@ -221,7 +220,7 @@ RecordsAreRead = (bytes : List ℕ) (r : Contents) → kept bytes ≡ Ok r → I
 abbrev pub IsReadAgain : Type 0
 IsReadAgain = (r : Contents) → IsRecord r → IsRule r.rule → IsInside 1024 r.cells → kept (text r) ≡ Ok r
 
--- .. and, if it is not too long for a file, so is the file.
+-- .. and so is a file with that text, if the text is not too long.
 abbrev pub IsFileAgain : Type 0
 IsFileAgain =
     (r : Contents) → IsRecord r → IsRule r.rule → IsInside 1024 r.cells → length (text r) ≤ 1048576

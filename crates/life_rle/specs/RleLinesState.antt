@@ -1,9 +1,9 @@
--- The kind of a line as the code has it.
+-- The code's kinds of lines as values of `Line`.
 use Rattle.life_rle.specs.declared.rle_lines.LineKind.{LineKind}
 use Rattle.life_rle.specs.declared.rle_lines.LineKind.TheVariants as kinds
 use Rattle.life_rle.specs.RleLines.{Line, passed, named, authored, comment, ruled, header}
 
--- what a line is, with its text as a list
+-- the kind of a line, with its text as a list
 abbrev pub kind_of : LineKind → Line
 kind_of kinds.Passed = passed
 kind_of (kinds.Name text) = named text.now

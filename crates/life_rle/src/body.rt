@@ -9,12 +9,12 @@ use crate::rle_lines::is_blank;
 use life_core::{Run, Runs};
 use std::alloc::{AllocError, Allocator};
 
-/// The greatest count of an item.
+/// The greatest count of an item; a greater one is `bad-count`.
 const MOST: u32 = 1_000_000;
-/// How many columns and rows hold live cells.
+/// How many columns and rows of a file may have live cells.
 const SIDE: u32 = 1024;
 
-/// Places `count` cells of a row from a column on.
+/// Appends the live cells of an item to the list.
 fn push_run<A: Allocator>(
     cells: &mut Runs<A>,
     column: u32,
@@ -35,7 +35,8 @@ fn push_run<A: Allocator>(
     })
 }
 
-/// The body so far: the position of the next item, its count so far, and the cells.
+/// The body so far. `row` and `column` say where the next item begins, and stop at 1024. `count` is the part of its
+/// count that was read, and stops at 1,000,001.
 #[derive(Drop)]
 pub(crate) struct Body<A: Allocator> {
     row: u32,
@@ -66,7 +67,7 @@ impl<A: Allocator> Body<A> {
         }
     }
 
-    /// Takes one more digit of the count.
+    /// Adds a digit to the count.
     fn digit(&mut self, byte: u8)
         requires low { 48 ≤ byte }
         requires high { byte ≤ 57 }
@@ -103,7 +104,7 @@ impl<A: Allocator> Body<A> {
         }
     }
 
-    /// Takes the item of this count and byte.
+    /// Acts on a complete item other than `!`: moves the position, and adds live cells.
     fn item(&mut self, count: u32, tag: u8) -> Result<(), RleFault>
         requires some { 1 ≤ count }
         requires few { count ≤ 1000000 }
@@ -128,7 +129,7 @@ impl<A: Allocator> Body<A> {
         Ok(())
     }
 
-    /// Reads the next bytes; returns the state of the body after them.
+    /// Reads a line or a part of one, and stops at the end of the body or at the first fault.
     fn line(&mut self, line: &[u8]) -> Result<Progress, RleFault>
         ensures { MatchResult result (λ progress. (rest : List ℕ) → outcome_at progress (place_reached self.new) rest ≡ body_from (place_reached self.old) (without_blanks line.now ++ rest)) (λ e. e ≡ Memory) }
     {
@@ -148,7 +149,7 @@ impl<A: Allocator> Body<A> {
     }
 }
 
-/// Whether a body has come to its end.
+/// Whether a body needs more bytes.
 #[derive(Clone, Copy)]
 pub(crate) enum Progress {
     More,
@@ -156,7 +157,7 @@ pub(crate) enum Progress {
     Failed(RleFault),
 }
 
-/// A body that is being read; its end and its first fault are kept.
+/// A body that is being read. After its end or its first fault it ignores all bytes.
 #[derive(Drop)]
 pub(crate) struct BodyReader<A: Allocator> {
     body: Body<A>,
@@ -188,7 +189,7 @@ impl<A: Allocator> BodyReader<A> {
         Ok(())
     }
 
-    /// The cells, or the first fault, if no bytes are left.
+    /// The cells, or the first fault, once all bytes are read.
     #[tactic(auto, unfolding(crate::specs::BodyState::body_from))]
     pub(crate) fn finish(self) -> Result<Runs<A>, RleFault>
         ensures cells { MatchResult result (λ cells. outcome self [] ≡ Ok (map coordinates cells)) (λ e. outcome self [] ≡ Err e) }

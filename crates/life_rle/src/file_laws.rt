@@ -1,8 +1,8 @@
-//! What holds of all files and records.
+//! Laws of all files and records. Calling one does nothing.
 ghost use Rattle.life_rle.specs.RleLaws.{LinesAreTheFile, ItemsAreTheBody, RunsAreLongest, HeadersGiveTheBox, HeadersAreRead, BodiesAreCanonical, OneCanonicalBody, NotesAreTheLines, TextsAreTheFile, RecordsAreRead, IsReadAgain, IsFileAgain};
 
-/// What makes the definitions of files believable: nothing is lost where a file is cut into lines, a
-/// body into items and a row into runs, and a header gives the size of the box.
+/// Cutting a file into lines, a body into items and tags into runs loses no byte. A header gives the width and height
+/// of the cells' box.
 pub fn laws_of_lines_and_runs()
     ensures lines { LinesAreTheFile }
     ensures items { ItemsAreTheBody }
@@ -10,26 +10,25 @@ pub fn laws_of_lines_and_runs()
     ensures headers { HeadersGiveTheBox }
 {}
 
-/// Which lines are headers, and with which rule text.
+/// A line is read as a header exactly when it has the form of one, with that form's rule text.
 pub fn law_of_headers()
     ensures { HeadersAreRead }
 {}
 
-/// What a canonical body is, and that there is one: its lines are as full as they can be, its runs could
-/// not be fewer, and read back they place exactly the record's cells.
+/// A record's body is canonical: its lines are full, its runs are as few as possible, and read back they place exactly
+/// the record's cells. Cells have at most one canonical body.
 pub fn laws_of_canonical_bodies()
     ensures canonical { BodiesAreCanonical }
     ensures one { OneCanonicalBody }
 {}
 
-/// Which texts a record has: the first name and the first author of its file, and the other texts as
-/// comments in their order.
+/// A record has the first name and the first author of its file. The other texts are its comments, in their order.
 pub fn laws_of_texts()
     ensures notes { NotesAreTheLines }
     ensures records { TextsAreTheFile }
 {}
 
-/// What is read is a record, and the text of a record is read as that record again.
+/// Every file that is read gives a valid record, and a record's text is read as the same record.
 pub fn laws_of_files()
     ensures records { RecordsAreRead }
     ensures again { IsReadAgain }

@@ -18,17 +18,17 @@ use std::alloc::Allocator;
 /// The most bytes of a file.
 const LONGEST_FILE: usize = 1_048_576;
 
-/// The most bytes that are taken from a stream: one more than a file may have.
+/// The most bytes that are read from a stream. One more than a file may have is enough to refuse it.
 const MOST_TAKEN: usize = 1_048_577;
 
-/// A file that is being read line by line: what the whole lines said, and the line that has begun.
+/// A file whose bytes arrive in pieces: the state after its complete lines, and the beginning of the next line.
 #[derive(Drop)]
 pub(crate) struct FileReader<A: Allocator> {
     reader: LineReader<A>,
     line: Vec<u8, A>,
 }
 
-/// The bytes before the first line end and those after it.
+/// The bytes before the first line feed and the bytes after it, or `None` without one.
 fn cut_line(bytes: &[u8]) -> Option<(&[u8], &[u8])>
     ensures { MatchOption result (HasNoLineEnd bytes.now) (λ cut. HasNoLineEnd cut.0.now × (bytes.now ≡ cut.0.now ++ 10 ∷ cut.1.now)) }
 {
@@ -51,7 +51,7 @@ impl<A: Allocator + Copy> FileReader<A> {
         }
     }
 
-    /// Reads the line that these bytes end.
+    /// Reads a line that ends with these bytes. A line in one piece is not copied.
     #[tactic(auto, unfolding(crate::specs::RleLines::lines_after))]
     fn end_line(&mut self, alloc: A, bytes: &[u8]) -> Result<(), RleFault>
         ensures { MatchResult result (λ _. (more : List ℕ) → awaited self.new more ≡ resumed self.old.reader ((self.old.line.items ++ bytes.now) ∷ lines_after [] more)) (λ e. e ≡ Memory) }
@@ -65,7 +65,7 @@ impl<A: Allocator + Copy> FileReader<A> {
         Ok(())
     }
 
-    /// Reads the next bytes.
+    /// Reads the complete lines in the next piece, and stores the rest.
     fn take_all(&mut self, alloc: A, piece: &[u8]) -> Result<(), RleFault>
         ensures { MatchResult result (λ _. (bytes : List ℕ) → awaited self.new bytes ≡ awaited self.old (piece.now ++ bytes)) (λ e. e ≡ Memory) }
     {
@@ -78,7 +78,7 @@ impl<A: Allocator + Copy> FileReader<A> {
         Ok(())
     }
 
-    /// What the file is read as, if nothing is left.
+    /// The record, or the first fault, once all bytes are read. The last line needs no line feed.
     #[tactic(auto, unfolding(crate::specs::RleLines::lines_after))]
     fn finish(self, alloc: A) -> Result<Record<A>, RleFault>
         requires { IsSound self }
@@ -91,7 +91,8 @@ impl<A: Allocator + Copy> FileReader<A> {
     }
 }
 
-/// Reads a file of any length.
+/// Reads a file of any length. The archive reads stored files this way: their text may be longer than a file that it
+/// accepts.
 pub fn read_kept<A: Allocator + Copy>(alloc: A, bytes: &[u8]) -> Result<Record<A>, RleFault>
     ensures gives { Gives result (kept bytes.now) }
     ensures inside { IfOk result (λ r. IsInside 1024 r.cells) }
@@ -113,7 +114,7 @@ pub fn read<A: Allocator + Copy>(alloc: A, bytes: &[u8]) -> Result<Record<A>, Rl
     read_kept(alloc, bytes)
 }
 
-/// Takes the bytes to their end, or to one more than a file may have; says how many there were.
+/// Reads the stream to its end, or to one byte more than a file may have. Returns how many bytes it read.
 fn read_stream<A: Allocator + Copy, I: Inlet>(
     alloc: A,
     inlet: &mut I,
@@ -147,19 +148,18 @@ fn read_stream<A: Allocator + Copy, I: Inlet>(
     Ok(taken)
 }
 
-/// Reads a file from a stream. At most 4,096 bytes are taken at a time, to the end of the stream or
-/// to the first byte that is too many.
+/// Reads a file from a stream, at most 4,096 bytes at a time, to the end or to the first byte that is too many.
 pub fn read_from<A: Allocator + Copy, I: Inlet>(
     alloc: A,
     inlet: &mut I,
 ) -> Result<Record<A>, ReadFault>
-    // If the bytes are known, they are read as the file that they are, however they were cut.
+    // How the stream cuts the bytes into pieces makes no difference.
     ensures exact { ReadsKnown (I.to_come inlet.old) result }
-    // Unreadable comes only if a take failed.
+    // Unreadable means that a read failed.
     ensures unreadable { result ≡ Err ReadFault.Unreadable → FailedBetween (I.failures inlet.old) (I.failures inlet.new) }
-    // A take that failed is answered Unreadable at once, and nothing else is.
+    // A failed read ends the call with Unreadable, and no other event does.
     ensures on_failed_take { ReportsFailures (I.failures inlet.old) (I.failures inlet.new) result }
-    // At most 1,048,577 bytes are taken, and none after a take that found the end.
+    // At most 1,048,577 bytes are read, and none after the end was found.
     ensures few { ConsumesUpTo MOST_TAKEN (I.to_come inlet.old) (I.to_come inlet.new) }
     ensures end { EndsLast (I.ends inlet.old) (I.ends inlet.new) (I.last_take inlet.new) }
     ensures inside { IfOk result (λ r. IsInside 1024 r.cells) }

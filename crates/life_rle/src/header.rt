@@ -6,7 +6,7 @@ ghost use Rattle.life_rle.specs.HeaderState.{rule_copied};
 
 use crate::rle_fault::RleFault;
 
-/// What follows the words, if the text begins with them in letters of either case.
+/// The text after `words`, if it begins with them in letters of either case. The words are in lower case.
 fn after_words<'a>(words: &[u8], text: &'a [u8]) -> Option<&'a [u8]>
     ensures { option_copied result ≡ after_words words.now text.now }
 {
@@ -25,7 +25,7 @@ fn after_words<'a>(words: &[u8], text: &'a [u8]) -> Option<&'a [u8]>
     Some(rest)
 }
 
-/// What follows the digits at the front.
+/// The text without the digits at its front.
 fn past_digits(text: &[u8]) -> &[u8]
     ensures { result.now ≡ past_digits text.now }
 {
@@ -39,7 +39,7 @@ fn past_digits(text: &[u8]) -> &[u8]
     rest
 }
 
-/// What follows a number.
+/// The text after a number, if it begins with one.
 fn after_number(text: &[u8]) -> Option<&[u8]>
     ensures { option_copied result ≡ after_number text.now }
 {
@@ -71,7 +71,7 @@ fn header_form(text: &[u8]) -> Option<Option<&[u8]>>
     rule_part(rest)
 }
 
-/// The rule text of a header without its blanks, if it has one.
+/// The rule text, if any, of a header line whose blanks are removed.
 #[tactic(auto, unfolding(crate::specs::Header::header_rule))]
 pub(crate) fn header_rule(text: &[u8]) -> Result<Option<&[u8]>, RleFault>
     ensures { MatchResult result (λ rule. header_rule text.now ≡ Ok (option_copied rule)) (λ e. header_rule text.now ≡ Err e) }

@@ -1,4 +1,4 @@
-//! Patterns in run length encoded files.
+//! Reading and writing pattern files (RLE), and the streams of bytes that they pass through.
 #![tactic(auto)]
 
 mod body;

@@ -1,4 +1,4 @@
-//! A file, line by line.
+//! Reading a file line by line: texts, the header, then the body.
 ghost use Rattle.std.specs.Prelude.{◌≡◌, ◌∷◌, [], List, ℕ, MatchResult, IfOk, Ok, map};
 ghost use Rattle.std.specs.FinSet as set;
 ghost use Rattle.std.specs.List.{All};
@@ -19,7 +19,7 @@ use crate::rle_lines::{LineKind, is_blank, is_mark_line, line_kind};
 use life_core::{Pattern, Rule, Runs};
 use std::alloc::{AllocError, Allocator};
 
-/// How far a file has come.
+/// The part of the file that the next line belongs to. After a fault all lines are ignored.
 #[derive(Clone, Copy)]
 pub(crate) enum Stage {
     Front,
@@ -27,7 +27,7 @@ pub(crate) enum Stage {
     Failed(RleFault),
 }
 
-/// A file that is being read line by line; its first fault is kept.
+/// A file that is being read line by line. It remembers the first fault, which [`LineReader::finish`] returns.
 #[derive(Drop)]
 pub(crate) struct LineReader<A: Allocator> {
     notes: Notes<A>,
@@ -69,7 +69,7 @@ impl<A: Allocator + Copy> LineReader<A> {
         }
     }
 
-    /// The rule of a header line.
+    /// The rule of the header if it gives one, otherwise the rule of the first `#r` line, otherwise Life.
     fn rule_of(&self, given: Option<&[u8]>) -> Result<Rule, RleFault>
         ensures { Gives result (chosen_rule (option_copied given.entry) (notes self.now.notes).rule) }
     {
@@ -82,9 +82,9 @@ impl<A: Allocator + Copy> LineReader<A> {
         }
     }
 
-    /// Judges a header line without its blanks.
+    /// Checks the texts and the header line, whose blanks are removed, and returns the rule.
     #[tactic(auto, unfolding(crate::specs::LineReaderState::front_rule))]
-    fn judge(&self, text: &[u8]) -> Result<Rule, RleFault>
+    fn checked_rule(&self, text: &[u8]) -> Result<Rule, RleFault>
         ensures { Gives result (front_rule (notes self.now.notes) text.now) }
     {
         if self.notes.is_past_limit() {
@@ -117,7 +117,7 @@ impl<A: Allocator + Copy> LineReader<A> {
         }
     }
 
-    /// Reads a line before the header, or the header.
+    /// Reads a line up to the header, which is the first line that is neither blank nor marked with `#`.
     fn front_line(&mut self, alloc: A, line: &[u8]) -> Result<(), RleFault>
         requires { self.old.stage ≡ Front }
         ensures { MatchResult result (λ _. (lines : List (List ℕ)) → resumed self.new lines ≡ resumed self.old (line.now ∷ lines)) (λ e. e ≡ Memory) }
@@ -131,14 +131,14 @@ impl<A: Allocator + Copy> LineReader<A> {
         }
     }
 
-    /// Reads the header.
+    /// Reads the header. A fault is remembered; only out of memory is returned at once.
     fn header(&mut self, alloc: A, line: &[u8]) -> Result<(), RleFault>
         requires front { self.old.stage ≡ Front }
         requires header { line_kind line.now ≡ header }
         ensures { MatchResult result (λ _. (lines : List (List ℕ)) → resumed self.new lines ≡ resumed self.old (line.now ∷ lines)) (λ e. e ≡ Memory) }
     {
         let text = without_blanks(alloc, line)?;
-        match self.judge(&text) {
+        match self.checked_rule(&text) {
             Ok(rule) => {
                 self.rule = rule;
                 self.body = BodyReader::new(alloc);
@@ -155,7 +155,7 @@ impl<A: Allocator + Copy> LineReader<A> {
         }
     }
 
-    /// What the file is read as, if no line is left.
+    /// The record, or the first fault, once all lines are read.
     #[tactic(auto, unfolding(crate::specs::File::read_lines, crate::specs::File::after_front))]
     pub(crate) fn finish(self) -> Result<Record<A>, RleFault>
         requires { (r : Contents) → resumed self [] ≡ Ok r → IsRecord r }

@@ -1,10 +1,10 @@
-//! Streams in memory.
+//! Streams in memory. Only tests use them.
 ghost use Rattle.std.specs.Prelude.{◌≡◌, [], Some, false};
 
 use crate::stream::{Failed, Inlet, Outlet};
 use std::alloc::{Allocator, Global};
 
-/// The bytes of a slice.
+/// An input that reads from a slice and never fails.
 #[derive(Drop)]
 pub struct SliceInlet<'a> {
     left: &'a [u8],
@@ -14,7 +14,7 @@ pub struct SliceInlet<'a> {
 }
 
 impl<'a> SliceInlet<'a> {
-    /// An inlet that these bytes come from.
+    /// The input of these bytes.
     pub fn new(bytes: &'a [u8]) -> SliceInlet<'a>
         ensures to_come { ⟦<SliceInlet<'static> as Inlet>⟧.to_come result ≡ Some bytes.now }
         ensures none_taken { ⟦<SliceInlet<'static> as Inlet>⟧.takes result ≡ 0 }
@@ -52,7 +52,7 @@ impl<'a> Inlet for SliceInlet<'a> {
     }
 }
 
-/// A growing list of bytes.
+/// An output that collects all bytes in memory. It fails if memory runs out.
 #[derive(Drop)]
 pub struct MemoryOutlet<A: Allocator = Global> {
     bytes: Vec<u8, A>,
@@ -61,7 +61,7 @@ pub struct MemoryOutlet<A: Allocator = Global> {
 }
 
 impl<A: Allocator> MemoryOutlet<A> {
-    /// An outlet to which nothing was put.
+    /// The output before the first write.
     pub fn new(alloc: A) -> MemoryOutlet<A>
         ensures bytes { ⟦<MemoryOutlet<A> as Outlet>⟧.already result ≡ Some [] }
         ensures none_failed { ⟦<MemoryOutlet<A> as Outlet>⟧.failures result ≡ 0 }
@@ -74,7 +74,7 @@ impl<A: Allocator> MemoryOutlet<A> {
         }
     }
 
-    /// What was put.
+    /// All bytes written so far.
     pub fn bytes(&self) -> &[u8]
         ensures { ⟦<MemoryOutlet<A> as Outlet>⟧.already self.now ≡ Some result.now }
     {

@@ -1,4 +1,4 @@
-//! The texts before the header.
+//! The texts in the `#` lines before the header.
 ghost use Rattle.std.specs.Prelude.{◌≡◌, OnOk, IfOk, MatchResult};
 ghost use Rattle.life_rle.specs.declared.rle_fault.RleFault.TheVariants.{Memory};
 ghost use Rattle.std.specs.List.{list_any};
@@ -14,7 +14,7 @@ const LONGEST: usize = 200;
 /// The most comments.
 const MOST_COMMENTS: usize = 64;
 
-/// The texts so far.
+/// The texts that the lines have given so far.
 #[derive(Drop)]
 pub(crate) struct Notes<A: Allocator> {
     pub(crate) name: Option<Text<A>>,
@@ -38,14 +38,14 @@ impl<A: Allocator> Notes<A> {
         }
     }
 
-    /// Takes one more comment.
+    /// Appends a comment.
     fn comment(&mut self, alloc: A, text: &[u8]) -> Result<(), AllocError>
         ensures { OnOk result (notes self.new ≡ with_comment (notes self.old) text.now) }
     {
         self.comments.push(Text::from_slice(alloc, text)?)
     }
 
-    /// Takes the text of a line before the header.
+    /// Adds the text of a line before the header. Later names and authors become comments, and later rules are ignored.
     pub(crate) fn line(&mut self, alloc: A, kind: LineKind<'_>) -> Result<(), AllocError>
         ensures { OnOk result (notes self.new ≡ with_line (notes self.old) (kind_of kind.entry)) }
     {
@@ -83,14 +83,14 @@ impl<A: Allocator> Notes<A> {
     }
 }
 
-/// Whether a text is too long.
+/// Whether one of the texts is too long.
 fn has_long<A: Allocator>(texts: &[Text<A>]) -> bool
     ensures { result ≡ list_any is_long texts.now }
 {
     texts.iter().any(|text| text.as_bytes().len() > LONGEST)
 }
 
-/// Whether the text is there, and too long.
+/// Whether there is a text and it is too long.
 fn is_long<A: Allocator>(text: &Option<Text<A>>) -> bool
     ensures { result ≡ is_long_text text.now }
 {

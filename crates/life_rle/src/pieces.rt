@@ -1,10 +1,10 @@
-//! Streams over memory that come and go in pieces, with one call that fails: for tests.
+//! Streams for tests: in memory, a few bytes a call, with one call that fails.
 ghost use Rattle.std.specs.Prelude.{◌≡◌, ◌<◌, ◌≤◌, [], Some, false, length};
 
 use crate::stream::{Failed, Inlet, Outlet};
 use std::alloc::Global;
 
-/// Bytes that come in pieces.
+/// An input that gives a few bytes a call.
 #[derive(Drop)]
 pub struct PieceInlet {
     bytes: Vec<u8>,
@@ -20,8 +20,7 @@ pub struct PieceInlet {
 }
 
 impl PieceInlet {
-    /// These bytes, at most this many a take. The call with this number, counted from 1, fails and moves
-    /// nothing.
+    /// An input of these bytes, at most `piece` a call. Call `fail_at`, counted from 1, fails and moves no bytes.
     pub fn new(bytes: Vec<u8>, piece: usize, fail_at: Option<u64>) -> PieceInlet
         requires { 0 < piece }
         ensures to_come { ⟦<PieceInlet as Inlet>⟧.to_come result ≡ Some bytes.items }
@@ -44,7 +43,7 @@ impl PieceInlet {
         }
     }
 
-    /// How many calls there were.
+    /// How many calls were made, including the one that failed.
     pub fn calls(&self) -> u64
         ensures { result ≡ self.now.calls }
     {
@@ -74,9 +73,9 @@ impl Inlet for PieceInlet {
         ensures gave { self.new.last_take ≡ bytes_moved result }
         ensures count { self.new.failures ≡ count_after self.old.failures result }
         ensures end { self.new.ends ≡ ends_after self.old.ends result }
-        // A piece comes whole, unless less is left or wanted.
+        // A call gives a full piece, unless fewer bytes remain or fit.
         ensures piece { IfOk result (λ k. k ≡ whole_piece self.old.piece (length (drop self.old.at self.old.bytes.items)) (length space.old)) }
-        // The call of the number fails, and no other.
+        // Only call `fail_at` fails.
         ensures fails { FailsAt self.old.fail_at self.new.calls result }
         ensures same_piece { self.new.piece ≡ self.old.piece }
         ensures same_call { self.new.fail_at ≡ self.old.fail_at }
@@ -97,7 +96,7 @@ impl Inlet for PieceInlet {
     }
 }
 
-/// A growing list of bytes that takes them in pieces.
+/// An output that accepts a few bytes a call and collects them in memory.
 #[derive(Drop)]
 pub struct PieceOutlet {
     bytes: Vec<u8>,
@@ -110,8 +109,7 @@ pub struct PieceOutlet {
 }
 
 impl PieceOutlet {
-    /// An outlet for at most this many bytes a put. The call with this number, counted from 1, fails and
-    /// moves nothing.
+    /// An output that accepts at most `piece` bytes a call. Call `fail_at`, counted from 1, fails and moves no bytes.
     pub fn new(alloc: Global, piece: usize, fail_at: Option<u64>) -> PieceOutlet
         requires { 0 < piece }
         ensures already { ⟦<PieceOutlet as Outlet>⟧.already result ≡ Some [] }
@@ -131,7 +129,7 @@ impl PieceOutlet {
         }
     }
 
-    /// What was put.
+    /// All bytes written so far.
     pub fn bytes(&self) -> &[u8]
         ensures { ⟦<PieceOutlet as Outlet>⟧.already self.now ≡ Some result.now }
     {
@@ -156,9 +154,9 @@ impl Outlet for PieceOutlet {
         ensures count { self.new.failures ≡ count_after self.old.failures result }
         ensures last { self.new.last_failed ≡ is_err result }
         ensures made { self.new.calls ≡ incremented self.old.calls }
-        // A piece is taken whole, unless less is offered.
+        // A call accepts a full piece, unless fewer bytes are offered.
         ensures piece { IfOk result (λ k. k ≡ min (length bytes.now) self.old.piece) }
-        // The call of the number fails. Another fails only if memory runs out, which no clause can say.
+        // Call `fail_at` fails. Another fails only if memory runs out, which no clause can say.
         ensures fails { self.old.fail_at ≡ Some self.new.calls → IsErr result }
         ensures same_piece { self.new.piece ≡ self.old.piece }
         ensures same_call { self.new.fail_at ≡ self.old.fail_at }

@@ -1,4 +1,4 @@
-//! A record's text, put into a stream.
+//! Writing a record's text to a stream.
 ghost use Rattle.std.specs.Prelude.{◌≡◌, OnOk, Err};
 ghost use Rattle.life_rle.specs.Putting.{PutsText};
 ghost use Rattle.life_rle.specs.Stream.{FailsLast};
@@ -10,16 +10,16 @@ use crate::stream::{Outlet, put_all};
 use crate::writer::write;
 use std::alloc::Allocator;
 
-/// Puts the text of a record, in as many puts as it takes.
+/// Writes the text of a record to the output, in as many calls as it needs.
 pub fn write_to<A: Allocator + Copy, O: Outlet>(
     alloc: A,
     record: &Record<A>,
     output: &mut O,
 ) -> Result<(), WriteFault>
-    // Ok has put the text, and no put failed.
+    // After Ok the text is written, and no write failed.
     ensures puts { PutsText (O.already output.old) (O.already output.new) (text «record».now) result }
     ensures count { OnOk result (O.failures output.new ≡ O.failures output.old) }
-    // Unwritable comes only if one put failed, the last; if memory ran out, nothing was put.
+    // Unwritable means that the last write failed, and only that one. Out of memory leaves the output untouched.
     ensures unwritable { result ≡ Err WriteFault.Unwritable → FailsLast (O.failures output.old) (O.failures output.new) (O.last_failed output.new) }
     ensures silent { result ≡ Err WriteFault.Memory → output.new ≡ output.old }
 {

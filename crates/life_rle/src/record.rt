@@ -1,4 +1,4 @@
-//! What a pattern file holds.
+//! The contents of a pattern file.
 ghost use Rattle.std.specs.Prelude.{◌≡◌, IfOk};
 ghost use Rattle.life_core.specs.Pattern.{IsWithin};
 ghost use Rattle.life_rle.specs.Record.{plain};
@@ -8,9 +8,9 @@ use life_core::{Fault, Pattern, Rule};
 use std::alloc::{Allocator, Global};
 use std::marker::Model;
 
-/// A pattern with its rule and its texts. Its cells are normal: their least column and least row are
-/// 0. A text has at most 200 bytes, no line end, and no blank at its ends; a name or an author that
-/// is there is not empty; there are at most 64 comments.
+/// A pattern with its rule and its texts. Its cells are normal: their least column and least row are 0. A text has at
+/// most 200 bytes, no line feed, and no blank at its ends. A name or an author is never empty, and there are at most 64
+/// comments.
 #[derive(Debug, Drop)]
 pub struct Record<A: Allocator = Global> {
     pub name: Option<Text<A>>,
@@ -32,7 +32,7 @@ impl<A: Allocator> Model for Record<A> {
     ghost invariant = { λ r. IsRecord (record { name = r.name; author = r.author; comments = r.comments; rule = r.rule; cells = r.cells }) };
 }
 
-/// A record of the normal set of a pattern, with no texts.
+/// The record of a pattern without texts. It moves the cells so that their least column and row are 0.
 pub fn plain<A: Allocator + Copy>(
     alloc: A,
     rule: Rule,
@@ -44,7 +44,7 @@ pub fn plain<A: Allocator + Copy>(
     Ok(into_plain(alloc, rule, pattern.copy(alloc)?))
 }
 
-/// The same for a pattern that is passed by value; reuses its memory.
+/// Does the same as [`plain`] for a pattern passed by value, and reuses its memory.
 pub fn into_plain<A: Allocator>(alloc: A, rule: Rule, pattern: Pattern<A>) -> Record<A>
     requires { IsWithin 500_000_000 pattern }
     ensures { result ≡ plain rule pattern }

@@ -1,4 +1,4 @@
-//! Why a file is not read or written.
+//! Faults of reading and writing a pattern file.
 ghost use Rattle.std.specs.Prelude.{◌≡◌};
 ghost use Rattle.life_rle.specs.declared.rle_fault.RleFault.TheVariants.{Memory};
 ghost use Rattle.life_rle.specs.RleFault.{fault_of_rule};
@@ -6,12 +6,12 @@ ghost use Rattle.life_rle.specs.RleFault.{fault_of_rule};
 use life_core::{Fault, RuleFault};
 use std::alloc::{AllocError, AllocFailed};
 
-/// Why a file was not read, in the order in which the faults are checked.
+/// Why a file was not read, in the order in which the faults are checked. The body's four are checked item by item.
 #[derive(Clone, Copy, Debug, PartialEq, Eq)]
 pub enum RleFault {
     /// The file has more than 1,048,576 bytes.
     TooLong = 1,
-    /// A kept text has more than 200 bytes, or there are more than 64 comments.
+    /// A text has more than 200 bytes, or there are more than 64 comments. A rule's text has no limit.
     TextLimit = 2,
     /// There is no header line, or it does not begin with `x`.
     NoHeader = 3,
@@ -21,7 +21,7 @@ pub enum RleFault {
     BadRule = 5,
     /// The rule has 0 among its births.
     BirthZero = 6,
-    /// An item's byte is none of `b`, `o`, `$`, `!`.
+    /// An item's byte is not `b`, `o`, `$` or `!`.
     OtherTag = 7,
     /// A count is 0 or over 1,000,000, or comes before `!` or at the end of the file.
     BadCount = 8,
@@ -29,21 +29,21 @@ pub enum RleFault {
     TooWide = 9,
     /// The body ends without `!`.
     NoEnd = 10,
-    /// An allocation was refused.
+    /// Out of memory. It can occur at any point.
     Memory = 11,
 }
 
 impl RleFault {
     ghost use Rattle.life_rle.specs.RleFault.{fault_number, fault_name};
 
-    /// The fault's number, from 1 on.
+    /// The fault's number, which the HTTP interface gives as `rle`.
     pub fn number(self) -> u8
         ensures { result ≡ fault_number self }
     {
         self as u8
     }
 
-    /// The name of the fault, in lower case.
+    /// The name that messages of programs give, such as `no-header`.
     pub fn name(self) -> &'static str
         ensures { result.now ≡ fault_name self }
     {
@@ -101,16 +101,16 @@ impl From<RuleFault> for RleFault {
 /// Why a file was not read from a stream.
 #[derive(Clone, Copy, Debug, PartialEq, Eq)]
 pub enum ReadFault {
-    /// The file is not read, whatever pieces it comes in.
+    /// The file is faulty, however the stream cuts it into pieces, or memory ran out.
     Rle(RleFault),
-    /// A take failed.
+    /// A read from the stream failed.
     Unreadable,
 }
 
 impl ReadFault {
     ghost use Rattle.life_rle.specs.RleFault.{read_fault_number};
 
-    /// From 1 to 11 the number of the file's fault, and 12 for a take that failed.
+    /// The file's fault as 1 to 11, or 12 if a read failed.
     pub fn number(self) -> u8
         ensures { result ≡ read_fault_number self }
     {
@@ -124,9 +124,9 @@ impl ReadFault {
 /// Why the text of a record was not written completely.
 #[derive(Clone, Copy, Debug, PartialEq, Eq)]
 pub enum WriteFault {
-    /// A put failed. A prefix of the text was put before it.
+    /// A write failed. A prefix of the text was written before it.
     Unwritable = 1,
-    /// An allocation was refused. Nothing was put.
+    /// Out of memory. No byte was written.
     Memory = 2,
 }
 

@@ -1,4 +1,4 @@
-//! What a line is.
+//! Lines before the body: blank, marked with `#`, or the header.
 ghost use Rattle.std.specs.Prelude.{◌≡◌};
 ghost use Rattle.life_core.specs.RuleText.{is_blank};
 ghost use Rattle.life_rle.specs.RleLines.{trim_start, trim_end, is_mark_line, marked, line_kind};
@@ -39,14 +39,14 @@ fn trim_end(line: &[u8]) -> &[u8]
     rest
 }
 
-/// Whether the first byte other than a blank is `#`.
+/// Whether the first byte other than a blank is `#`. Such a line of a body is skipped.
 pub(crate) fn is_mark_line(line: &[u8]) -> bool
     ensures { result ≡ is_mark_line line.now }
 {
     trim_start(line).first() == Some(&b'#')
 }
 
-/// What a line before the body is.
+/// The kind of a line before the body, with its text. `Passed` has no meaning and is skipped.
 pub(crate) enum LineKind<'a> {
     Passed,
     Name(&'a [u8]),
@@ -56,7 +56,7 @@ pub(crate) enum LineKind<'a> {
     Header,
 }
 
-/// The meaning of the text, which depends on the letter after `#`.
+/// The kind of a line that begins with `#` and this letter.
 fn marked(letter: u8, text: &[u8]) -> LineKind<'_>
     ensures { kind_of result ≡ marked letter text.now }
 {

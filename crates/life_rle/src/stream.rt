@@ -1,18 +1,19 @@
-//! Where bytes come from and where they go.
+//! Streams of bytes, in and out, whose contracts say which bytes passed and how many calls failed.
 ghost use Rattle.std.specs.Prelude.{◌≡◌, ◌⊎◌, Bool, ℕ, ◌<◌, ◌≤◌, List, Option, Ok, IfOk, OnOk, OnErr, false, length};
 ghost use Rattle.life_rle.specs.Stream.{incremented, count_after, ends_after, bytes_moved, is_err, Takes, Puts, Appends, AppendsSome, FailsLast};
 
 use std::io::{self, Read, Write};
 
-/// A take or a put that moved nothing.
+/// A read or a write that failed and moved no bytes.
 #[derive(Clone, Copy, Debug, PartialEq, Eq)]
 pub struct Failed;
 
-/// Where bytes come from.
+/// An input stream.
 pub trait Inlet {
     // The bytes still to come, if the proof knows them.
     ghost to_come: { Self → Option (List ℕ) };
-    // How many takes were made, how many bytes the last of them moved, how many have failed, and how many found the end.
+    // How many reads were made, how many bytes the last one moved, how many failed, and how many found the end. Counts
+    // stop at the greatest 64-bit number.
     ghost takes: { Self → ℕ };
 
     ghost last_take: { Self → ℕ };
@@ -21,7 +22,7 @@ pub trait Inlet {
 
     ghost ends: { Self → ℕ };
 
-    /// Takes some of the next bytes into the front of `space`.
+    /// Reads some of the next bytes into the front of `space`, and returns how many. 0 is the end, if `space` has room.
     fn take(&mut self, space: &mut [u8]) -> Result<usize, Failed>
         ensures within { IfOk result (λ k. k ≤ length space.new) }
         ensures bytes { Takes (to_come self.old) (to_come self.new) result space.new }
@@ -31,16 +32,16 @@ pub trait Inlet {
         ensures end { ends self.new ≡ ends_after (ends self.old) result };
 }
 
-/// Where bytes go.
+/// An output stream.
 pub trait Outlet {
-    // The bytes already put, if the proof knows them.
+    // The bytes already written, if the proof knows them.
     ghost already: { Self → Option (List ℕ) };
-    // How many puts have failed, and whether the last one did.
+    // How many writes have failed, and whether the last one did.
     ghost failures: { Self → ℕ };
 
     ghost last_failed: { Self → Bool };
 
-    /// Puts some of the bytes from the front of `bytes`.
+    /// Writes some bytes from the front of `bytes`, at least one unless there are none, and returns how many.
     fn put(&mut self, bytes: &[u8]) -> Result<usize, Failed>
         ensures within { IfOk result (λ k. k ≤ length bytes.now) }
         ensures some { IfOk result (λ k. 0 < length bytes.now → 0 < k) }
@@ -49,7 +50,7 @@ pub trait Outlet {
         ensures last { last_failed self.new ≡ is_err result };
 }
 
-/// Any reader. The proof knows of its bytes what it knows of the reader's.
+/// An input from any `Read`. Its bytes are known to the proof if the reader's are.
 #[derive(Drop)]
 pub struct FromRead<R> {
     reader: R,
@@ -60,7 +61,7 @@ pub struct FromRead<R> {
 }
 
 impl<R: Read> FromRead<R> {
-    /// The inlet over the reader.
+    /// The input before the first read.
     pub fn new(reader: R) -> FromRead<R>
         ensures bytes { ⟦<FromRead<R> as Inlet>⟧.to_come result ≡ R.remaining reader }
         ensures none_taken { ⟦<FromRead<R> as Inlet>⟧.takes result ≡ 0 }
@@ -77,7 +78,7 @@ impl<R: Read> FromRead<R> {
     }
 }
 
-/// What a take answers for what its reader answered: it fails only if the reader did, or gave more than there was room for.
+/// The result of a read. It fails if the reader did, or if it claims more bytes than there was room for.
 fn taken(answer: io::Result<usize>, room: usize) -> Result<usize, Failed>
     ensures ok { IfOk result (λ k. (answer ≡ Ok k) × (k ≤ room)) }
     ensures err { OnErr result ((k : ℕ) → answer ≡ Ok k → room < k) }
@@ -88,7 +89,7 @@ fn taken(answer: io::Result<usize>, room: usize) -> Result<usize, Failed>
     }
 }
 
-/// What a put of this many bytes returns for its writer's result: it fails only if the writer did, or if the writer took none or too many.
+/// The result of a write of `most` bytes. It fails if the writer did, or claims to have accepted no byte or too many.
 fn given(answer: io::Result<usize>, most: usize) -> Result<usize, Failed>
     ensures ok { IfOk result (λ k. (answer ≡ Ok k) × (k ≤ most) × (0 < most → 0 < k)) }
     ensures err { OnErr result ((k : ℕ) → answer ≡ Ok k → (most < k) ⊎ ((k ≡ 0) × (0 < most))) }
@@ -128,7 +129,7 @@ impl<R: Read> Inlet for FromRead<R> {
     }
 }
 
-/// Any writer. A write of no byte is a failure.
+/// An output to any `Write`. A writer that accepts no byte has failed, so that a loop always ends.
 #[derive(Drop)]
 pub struct FromWrite<W> {
     writer: W,
@@ -137,7 +138,7 @@ pub struct FromWrite<W> {
 }
 
 impl<W: Write> FromWrite<W> {
-    /// The outlet over the writer.
+    /// The output before the first write.
     pub fn new(writer: W) -> FromWrite<W>
         ensures bytes { ⟦<FromWrite<W> as Outlet>⟧.already result ≡ W.contents writer }
         ensures none_failed { ⟦<FromWrite<W> as Outlet>⟧.failures result ≡ 0 }
@@ -174,7 +175,7 @@ impl<W: Write> Outlet for FromWrite<W> {
     }
 }
 
-/// Puts all of the bytes, in as many puts as it takes. A put that fails is the last.
+/// Writes all bytes, in as many calls as it needs. It stops at the first write that fails.
 pub fn put_all<O: Outlet>(output: &mut O, bytes: &[u8]) -> Result<(), Failed>
     ensures all { OnOk result (Appends (O.already output.old) (O.already output.new) bytes.now) }
     ensures some { OnErr result (AppendsSome (O.already output.old) (O.already output.new) bytes.now) }

@@ -4,7 +4,7 @@ ghost use Rattle.std.specs.Prelude.{◌≡◌, ◌++◌, [], ◌∷◌, IfOk, On
 use std::alloc::{AllocError, Allocator, Global};
 use std::marker::Model;
 
-/// A text of a file: a list of bytes.
+/// A text of a file: bytes that need not be UTF-8.
 #[derive(Debug, Drop)]
 pub struct Text<A: Allocator = Global> {
     bytes: Vec<u8, A>,
@@ -19,7 +19,7 @@ impl<A: Allocator> Model for Text<A> {
 }
 
 impl<A: Allocator> Text<A> {
-    /// The text of these bytes.
+    /// Copies the bytes. It checks no limit.
     pub fn from_slice(alloc: A, bytes: &[u8]) -> Result<Text<A>, AllocError>
         ensures { IfOk result (λ t. t ≡ bytes.now) }
     {
@@ -28,7 +28,7 @@ impl<A: Allocator> Text<A> {
         })
     }
 
-    /// The text's bytes, without a line end.
+    /// The text's bytes. In a record they have no line feed.
     pub fn as_bytes(&self) -> &[u8]
         ensures { result.now ≡ self.now }
     {
@@ -67,7 +67,7 @@ impl<A: Allocator> Texts<A> {
         self.texts.as_slice()
     }
 
-    /// Takes one more text.
+    /// Appends a text.
     pub fn push(&mut self, text: Text<A>) -> Result<(), AllocError>
         ensures ok { OnOk result (self.new ≡ self.old ++ text ∷ []) }
         ensures err { OnErr result (self.new ≡ self.old) }

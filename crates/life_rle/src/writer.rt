@@ -1,4 +1,4 @@
-//! The text of a record.
+//! Writing a record as text.
 ghost use Rattle.std.specs.Prelude.{◌≡◌, ◌≤◌, ◌<◌, ◌+◌, ◌-◌, ◌==◌, if◌then◌else◌, ℕ, List, [], ◌∷◌, ◌++◌, length, map, Ok, IfOk, OnOk};
 ghost use Rattle.std.specs.List.{All, flat_map};
 ghost use Rattle.life_core.specs.Runs.{run_cells, runs_cells};
@@ -13,18 +13,18 @@ use itoa::Buffer;
 use life_core::{Fault, Run};
 use std::alloc::{AllocError, Allocator};
 
-/// The most bytes of a line of items.
+/// The most bytes of a line of items, without its line feed.
 const WIDTH: usize = 70;
 
-/// Items laid out in lines. The current line has its own buffer and is moved into the text as a whole, so an item of one digit takes
-/// two stores and no allocation.
+/// Items laid out in lines. A complete line is copied from its buffer into the text, so an item of one digit takes two
+/// stores and no allocation.
 #[derive(Drop)]
 struct ItemLines<A: Allocator> {
-    /// The text up to the last line that is whole.
+    /// The text up to the last complete line.
     out: Vec<u8, A>,
-    /// The line that has begun, with room for its end.
+    /// The line that has begun. Besides its 70 bytes there is room for a line feed.
     line: [u8; 72],
-    /// How many bytes of the line there are.
+    /// How many bytes the line has so far.
     used: usize,
     ghost used_in: { used ≤ 70 },
 }
@@ -66,7 +66,7 @@ impl<A: Allocator + Copy> ItemLines<A> {
         Ok(())
     }
 
-    /// Lays the item of a count of at most one digit: the digit, which the tag replaces if the count is 1, and the tag.
+    /// Writes an item whose count has one digit. If the count is 1, the tag overwrites the digit.
     fn put_digit(&mut self, count: u8, tag: u8) -> Result<(), AllocError>
         requires some { 0 < count }
         requires small { count < 10 }
@@ -80,7 +80,7 @@ impl<A: Allocator + Copy> ItemLines<A> {
         Ok(())
     }
 
-    /// Lays the item of these digits and its tag.
+    /// Writes an item with these digits and this tag.
     fn put(&mut self, digits: &[u8], tag: u8) -> Result<(), AllocError>
         requires { length digits.now < 70 }
         ensures { OnOk result ((items : List (List ℕ)) → written self.new items ≡ written self.old ((digits.now ++ tag ∷ []) ∷ items)) }
@@ -93,7 +93,7 @@ impl<A: Allocator + Copy> ItemLines<A> {
         Ok(())
     }
 
-    /// Lays the item of this count, if the count is not 0.
+    /// Writes an item with this count and tag; none if the count is 0.
     fn item(&mut self, count: u64, tag: u8) -> Result<(), AllocError>
         ensures { OnOk result ((items : List (List ℕ)) → written self.new items ≡ written self.old (counted count tag ++ items)) }
     {
@@ -107,7 +107,7 @@ impl<A: Allocator + Copy> ItemLines<A> {
     }
 }
 
-/// A body so far: where the next run may begin, and how many live cells are right before it.
+/// A body so far. The next run may begin at `row` and `column`; the `live` cells right before are not written yet.
 #[derive(Drop)]
 struct BodyWriter<A: Allocator> {
     lines: ItemLines<A>,
@@ -119,7 +119,7 @@ struct BodyWriter<A: Allocator> {
 impl<A: Allocator + Copy> BodyWriter<A> {
     ghost use Rattle.life_rle.specs.ItemLinesState.{written, body_written};
 
-    /// Takes the next run.
+    /// Adds the next run. It writes the live cells before it, and the gap.
     fn run(&mut self, run: Run) -> Result<(), AllocError>
         requires { IsNextRun self.old.row self.old.column self.old.live run }
         ensures text { OnOk result ((cells : List (ℕ × ℕ)) (items : List (List ℕ)) → body_written self.new cells items ≡ body_written self.old (map coordinates (run_cells run) ++ cells) items) }
@@ -135,7 +135,7 @@ impl<A: Allocator + Copy> BodyWriter<A> {
         Ok(())
     }
 
-    /// Lays the live cells so far, and what lies between them and the cell at x and y.
+    /// Writes the live cells so far, and the row ends and dead cells between them and the cell at `x` and `y`.
     fn gap(&mut self, x: u32, y: u32) -> Result<(), AllocError>
         requires row { self.old.row ≤ y }
         requires column { self.old.row ≡ y → self.old.column ≤ x }
@@ -236,7 +236,7 @@ fn header_line<A: Allocator>(
     Ok(())
 }
 
-/// One past the greatest column and one past the greatest row, and 0 and 0 if there are no cells.
+/// The width and height of a header: one past the greatest column and row of normal cells, 0 and 0 without cells.
 pub fn size_of(runs: &[Run]) -> (u64, u64)
     requires { All IsQuarterRun runs.now }
     ensures width { result.0 ≡ width_of (map coordinates (runs_cells runs.now)) }
@@ -261,12 +261,12 @@ fn start_of(run: Run) -> (u32, u32)
     (run.first as u32, run.row as u32)
 }
 
-/// The text of a record: its texts, its header and its body. Cells form the longest runs, and a
-/// line takes whole items as long as it then has at most 70 bytes.
+/// The canonical text of a record: its texts, its header and its body. Runs are as long as possible, and lines break
+/// between items, after at most 70 bytes.
 #[tactic(auto, unfolding(crate::specs::Writer::text))]
 pub fn write<A: Allocator + Copy>(alloc: A, record: &Record<A>) -> Result<Vec<u8, A>, Fault>
     ensures text { IfOk result (λ v. v.items ≡ text «record».now) }
-    // In a box of at most 1024 by 1024 it is read as the record again.
+    // If the cells fit in 1024 by 1024, the text is read as the same record.
     ensures again { IfOk result (λ v. IsInside 1024 «record».now.cells → kept v.items ≡ Ok «record».now) }
 {
     let rule = record.rule.text(alloc)?;

@@ -1,4 +1,4 @@
--- What a crash leaves of a transaction that makes the tables, or carries them over.
+-- What a crash leaves of a transaction that creates or migrates the tables.
 use Rattle.std.proofs.Common.{◌≡◌, [], true, refl, sym, subst, inl, inr, arith}
 use Rattle.std.specs.Prelude.{IsTrue, false}
 use Rattle.std.specs.List.{AllByRecursion}

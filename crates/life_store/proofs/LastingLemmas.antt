@@ -1,4 +1,4 @@
--- How long a database that is healthy stays healthy.
+-- A healthy database stays healthy unless its disk fails.
 use Rattle.std.proofs.Common.{arith, ◌≡◌, ◌≤◌, ◌+◌, ◌-◌, ◌^◌, ◌⊎◌, inl, inr, ℕ, Bool, true, false, refl, sym, subst}
 use Rattle.std.proofs.Common.{◌∙◌, min}
 use Rattle.sqlite_trees.specs.Tree.{Trees}

@@ -1,4 +1,4 @@
--- What carries an archive of schema version 1 over, statement by statement.
+-- The migration of an archive of schema version 1, statement by statement.
 use Rattle.std.proofs.Common.{◌≡◌, ◌⊎◌, ◌<◌, ◌≤◌, Bool, inl, inr, ℕ, zero, suc, ◌+◌, pos, List, [], ◌∷◌, ◌++◌, length}
 use Rattle.std.proofs.Common.{map, take, slice_get, Option, Some, None, Ok, Err, Result, true, refl, sym, ap, ap₂}
 use Rattle.std.proofs.Common.{subst, ◌∙◌, arith, false}

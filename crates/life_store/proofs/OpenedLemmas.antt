@@ -30,7 +30,7 @@ use Rattle.life_store.specs.Crash.{NothingNew, CrashLeaves}
 use Rattle.life_store.specs.Kept.{Kept}
 use Rattle.life_store.specs.Layout.{first_schema, archive_schema}
 use Rattle.life_store.specs.Migration.{HoldsFirst}
-use Rattle.life_store.specs.Opening.{FilesHold, FilesHoldFirst, FilesMigrated, LeftHold, ReadsAs, AreLetGo}
+use Rattle.life_store.specs.Opening.{FilesHold, FilesHoldFirst, FilesMigrated, LeftHold, ReadsAs, AreReleased}
 use Rattle.life_store.specs.Opening.{AreLeftOpened, AreUnharmed}
 use Rattle.life_store.specs.OpeningState.{IsForeign, IsMadeOf, AreLeftMade}
 use Rattle.life_store.specs.Tables.{Tables, tables_in, tables_of}
@@ -99,7 +99,7 @@ made_by_close {D} {g} t was conn now stays crash copied clean =
 
 -- .. or whose close is refused
 pub made_by_refusal : {D : Type 0} {g : Ghosts D} (t : Tables) (was mid : FileStore D g) (now : Files D)
-    → CrashLeaves over_files NothingNew was mid → AreLetGo mid now
+    → CrashLeaves over_files NothingNew was mid → AreReleased mid now
     → (IsClean (view mid) → IsTrue (view was).is_open → IsForeign t) → AreClean g now.log now.db
     → IsClean (view was) × (IsTrue (view was).is_open → AreLeftMade t was now)
 made_by_refusal {D} {g} t was mid now crash gone foreign clean =

@@ -1,4 +1,4 @@
--- What the files of a store hold, once it was let go.
+-- The contents of a store's files after it was given up.
 use Rattle.std.proofs.Common.{arith, ◌≡◌, ◌≤◌, ◌⊎◌, inl, inr, refl, sym, subst, ◌∙◌}
 use Rattle.std.proofs.Math.Logic.{∥∥₁_elim, ∥∥₁_map}
 use Rattle.std.specs.Prelude.{IsTrue}
@@ -23,7 +23,7 @@ use Rattle.sqlite.specs.Held.{state as state_by}
 use Rattle.sqlite_trees.specs.declared.store.Store as stores
 use Rattle.sqlite.proofs.Theorems.{opens_again}
 use Rattle.life_store.specs.Kept.{Kept}
-use Rattle.life_store.specs.Opening.{LeftHold, AreLeftOf, ReadsAs, AreReadOf, AreLetGo, HaveFailedSince}
+use Rattle.life_store.specs.Opening.{LeftHold, AreLeftOf, ReadsAs, AreReadOf, AreReleased, HaveFailedSince}
 use Rattle.life_store.specs.Tables.{Tables, TreesHold, tables_of}
 use Rattle.life_store.proofs.KeepLemmas.{healthy_is}
 
@@ -107,10 +107,11 @@ module _ {D : Type 0} {g : Ghosts D} (was last : FileStore D g) (files : Files D
   clean_last is clean = no_doubt _ (clean_is last.pool ∙ subst (λ p. AreClean g p.0 p.1) is clean)
 
   -- a store that was let go without a checkpoint, or whose checkpoint was refused
-  pub let_go : (files.log, files.db) ≡ shown.files last → IsQuiet view shown.faults recovers shown.is_shielded was last
+  pub released : (files.log, files.db) ≡ shown.files last
+      → IsQuiet view shown.faults recovers shown.is_shielded was last
       → (IsClean (view last) → AreDatabases (recovers last))
-      → (IsClean (view last) → IsTrue (view last).is_open → IsTrue (view last).is_numbered) → AreLetGo was files
-  let_go is quiet sound numbered = record {
+      → (IsClean (view last) → IsTrue (view last).is_open → IsTrue (view last).is_numbered) → AreReleased was files
+  released is quiet sound numbered = record {
     honest = λ clean. let now = clean_last is clean in omega (arith, quiet.clean, now);
     read = left_read is sound quiet.outcomes;
     left = λ clean up.
@@ -124,8 +125,8 @@ module _ {D : Type 0} {g : Ghosts D} (was last : FileStore D g) (files : Files D
   pub let_go_numbered : (files.log, files.db) ≡ shown.files last
       → IsQuiet view shown.faults recovers shown.is_shielded was last
       → (IsClean (view last) → AreDatabases (recovers last)) → (IsClean (view last) → IsTrue (view last).is_numbered)
-      → AreLetGo was files
-  let_go_numbered is quiet sound numbered = let_go is quiet sound (λ none up. numbered none)
+      → AreReleased was files
+  let_go_numbered is quiet sound numbered = released is quiet sound (λ none up. numbered none)
 
   -- each image that a crash may leave of an open store holds what was committed
   pub left_same : SeenMayStay g → IsTrue (view was).is_open → AreLeftOf was files → AreClean g files.log files.db
@@ -149,7 +150,7 @@ module _ {D : Type 0} {g : Ghosts D} (was last : FileStore D g) (files : Files D
 -- what an archive held, after a close that was refused
 pub kept_unless_failed : {D : Type 0} {g : Ghosts D} (was : FileStore D g) (files : Files D) (k : Kept)
     → SeenMayStay g → IsTrue (view was).is_open → ((db : Trees) → recovers was db → TreesHold db k)
-    → AreLetGo was files → AreClean g files.log files.db
+    → AreReleased was files → AreClean g files.log files.db
     → LeftHold g files k ⊎ HaveFailedSince was files
 kept_unless_failed was files k stays up trees gone clean = elim (gone.left clean up) [
   | inl allowed ↦ inl (left_held was was files k stays up trees allowed clean)

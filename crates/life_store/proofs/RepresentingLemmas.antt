@@ -1,4 +1,4 @@
--- Rows represent one list of deposits and one list of censuses at most.
+-- Rows represent at most one list of deposits and one list of censuses.
 use Rattle.std.proofs.Common.{◌≡◌, ◌∙◌, ◌<◌, ◌+◌, ℕ, List, [], ◌∷◌, ◌++◌, map, Ok, refl, sym, ap, ap₂, arith}
 use Rattle.std.specs.Prelude.{⊤, Bool, true, false}
 use Rattle.std.specs.List.{AllByRecursion}

@@ -1,4 +1,4 @@
--- An archive that is given up for its store.
+-- The trees of an archive that is given up for its store.
 use Rattle.std.proofs.Common.{◌≡◌, ◌≤◌, ◌∙◌, Bool, true, false, refl, sym, ap, subst, arith}
 use Rattle.std.specs.Prelude.{IsTrue, ◌&&◌}
 use Rattle.sqlite_trees.specs.declared.store.Store.{Ghosts}

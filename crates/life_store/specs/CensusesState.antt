@@ -1,4 +1,4 @@
--- Used by the contracts of the code alone: what the rows of the tables represent (Tables.antt), part by part, as a
+-- Used only by contracts inside the crate: the contents that rows represent (Tables.antt), table by table, while a
 -- transaction writes them.
 use Rattle.std.specs.Prelude.{◌≡◌, ℕ, List, [], ◌∷◌, ◌++◌, Option, Result, OnOk, IsTrue}
 use Rattle.sqlite_value.specs.Order.{Row}
@@ -15,13 +15,13 @@ use Rattle.life_store.specs.Stored.{rows_by, deposit_cells, census_cells, count_
 abbrev pub tallied_by : List ℕ → List ℕ → List Tallied → Option (ℕ × Tallied)
 tallied_by member token ts = first_from (λ t. is_census_of member token t.census) 1 ts
 
--- the rows of `layout`, and what the rows of the other tables represent, each for a list of its own
+-- the rows of `layout`, and for each other table the list that its rows represent
 pub record Parts : Type 0 where
   pub layout : List Row
   pub deposits : List Deposit
   pub censuses : List Tallied
   pub counts : List (ℕ × (List ℕ × ℕ))
-  -- the censuses whose flags are there
+  -- the censuses whose flags are stored
   pub flagged : List Tallied
 
 pub record HoldsParts (db : Database) (p : Parts) : Type 0 where
@@ -32,16 +32,16 @@ pub record HoldsParts (db : Database) (p : Parts) : Type 0 where
   pub census_rows : db.trees 5 ≡ rows_by count_cells 1 p.counts
   pub census_flags : db.trees 7 ≡ rows_by flag_cells 1 p.flagged
 
--- a statement of a transaction takes tables whose rows represent the first to tables whose rows represent the second
+-- a statement inside a transaction: if the rows represented `before` and it succeeds, they represent `after`
 abbrev pub AddsInside : {S A E : Type 0} → Ghosts S → Held S → Held S → Result A E → Parts → Parts → Type 0
 AddsInside g old new result before after =
     HasCleanDisk (state g new) → IsTrue old.in_transaction → HoldsParts (state g old).now before
     → OnOk result (IsTrue new.in_transaction × HoldsParts (state g new).now after)
 
--- one census more, the last, with the rows of its tally under its number
+-- appends a census, and the rows of its tally under its number
 abbrev pub with_census : ℕ → Tallied → Parts → Parts
 with_census id t p = record p { censuses = p.censuses ++ t ∷ []; counts = p.counts ++ tagged id t.tally.rows }
 
--- one flag more, the last
+-- appends the flag of a census
 abbrev pub with_flag : Tallied → Parts → Parts
 with_flag t p = record p { flagged = p.flagged ++ t ∷ [] }

@@ -1,4 +1,4 @@
--- Used by the contracts of the code alone: the tables of Layout.antt as they are made.
+-- Used only by contracts inside the crate: the tables of Layout.antt while they are created.
 use Rattle.std.specs.Prelude.{◌≡◌, ℕ, pos, List, [], ◌∷◌}
 use Rattle.std.specs.List.{AllByRecursion}
 use Rattle.sqlite_value.specs.declared.value.Value.TheVariants.{Int}
@@ -12,12 +12,12 @@ pub record HasTables (schema : Schema) (empty : List ℕ) (db : Database) : Type
   pub is : db.schema ≡ schema
   pub none : AllByRecursion (λ t. db.trees t ≡ []) empty
 
--- the five tables, empty, and the row that names the layout
+-- the five tables, all empty except `layout`, whose one row names version 2
 pub record IsNewArchive (db : Database) : Type 0 where
   pub has_tables : HasTables archive_schema (1 ∷ 3 ∷ 5 ∷ 7 ∷ []) db
   pub version : db.trees 0 ≡ (Int (pos 1) ∷ Int (pos 2) ∷ []) ∷ []
 
--- what the transaction that makes the tables commits, where there were none
+-- if the database had no tables, creating them commits these trees
 abbrev pub IsMadeAnew : Database → Trees → Type 0
 IsMadeAnew old db =
     HasTables no_schema [] old → (after : Database) × (db ≡ after.trees) × IsDatabase after × IsNewArchive after

@@ -1,4 +1,4 @@
--- What is kept: deposits, and censuses each with a tally and a flag. A number is a place in its list, from 1.
+-- The contents of an archive: deposits, and censuses each with a tally and a flag. Both lists are numbered from 1.
 use Rattle.std.specs.Prelude.{◌&&◌, ◌+◌, ℕ, zero, suc, Bool, List, [], ◌∷◌, Option, None, Some, map, filter, take}
 use Rattle.std.specs.Prelude.{sum_by, slice_get, nat_lt, bytes_eq, false, if◌then◌else◌}
 use Rattle.std.specs.FinSet as set
@@ -18,17 +18,17 @@ pub record Tallied : Type 0 where
   pub tally : TallyCounts
   pub steady : Bool
 
--- what an archive keeps, in the order in which it came
+-- the contents of an archive, in the order in which they were added
 pub record Kept : Type 0 where
   pub deposits : List Deposit
   pub censuses : List Tallied
 
--- the elements with their numbers, the first with this one
+-- the elements with consecutive numbers: for [a, b] from 1 on, (1, a) and (2, b)
 abbrev pub numbered_from : {X : Type 0} → ℕ → List X → List (ℕ × X)
 numbered_from id [] = []
 numbered_from id (x ∷ xs) = (id, x) ∷ numbered_from (id + 1) xs
 
--- the element with the number, from 1
+-- the element with the number: in [a, b], number 2 is b, and 0 and 3 are None
 abbrev pub numbered : {X : Type 0} → List X → ℕ → Option X
 numbered xs zero = None
 numbered xs (suc i) = slice_get xs i
@@ -38,7 +38,7 @@ unfoldable pub first_from : {X : Type 0} → (X → Bool) → ℕ → List X →
 first_from test id [] = None
 first_from test id (x ∷ xs) = if test x then Some (id, x) else first_from test (id + 1) xs
 
--- whether it is under the member and the token
+-- whether the deposit has this member and this token
 abbrev pub is_of : List ℕ → List ℕ → Deposit → Bool
 is_of member token d = bytes_eq d.member member && bytes_eq d.token token
 
@@ -83,10 +83,10 @@ has_rule rule (Some d) = same_rule d.content.rule rule
 abbrev pub count_of_code : List ℕ → List (List ℕ × ℕ) → ℕ
 count_of_code code rows = sum_by (λ row. if bytes_eq row.0 code then row.1 else 0) rows
 
--- how many clusters with the code one census has, where its deposit has the rule
+-- how many clusters with the code one census has, or 0 if its deposit has another rule
 abbrev pub share : List Deposit → RuleSets → List ℕ → Tallied → ℕ
 share ds rule code t = if has_rule rule (numbered ds t.census.deposit) then count_of_code code t.tally.rows else 0
 
--- and all of them together
+-- how many clusters with the code all censuses of deposits with the rule have
 abbrev pub total_of : Kept → RuleSets → List ℕ → ℕ
 total_of k rule code = sum_by (share k.deposits rule code) k.censuses

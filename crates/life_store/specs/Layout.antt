@@ -1,5 +1,5 @@
 -- The schemas of the tables of docs/FORMATS.md (SQLite's "CREATE TABLE"): the five tables of schema version 2, and the
--- four of schema version 1. That the texts of the code make them is proved.
+-- four of schema version 1. The crate proves that its CREATE TABLE statements make exactly these.
 use Rattle.std.specs.Prelude.{true, false, [], ◌∷◌, Some, None, codes, List, ℕ, pos}
 use Rattle.sqlite_value.specs.declared.keys.Collation.TheVariants.{Binary}
 use Rattle.sqlite_value.specs.declared.value.Value.TheVariants.{Null, Int}
@@ -40,7 +40,7 @@ reference column parent key = record {
   is_deferred = false;
 }
 
--- a table of these columns alone: without keys, checks and references
+-- a table with only these columns: without keys, checks and references
 abbrev pub table_of : List ℕ → List Column → Table
 table_of name columns = record {
   name = name;
@@ -65,7 +65,7 @@ keyed table = record table { key = Some 0; primary = 0 ∷ [] }
 abbrev pub unique : List ℕ → Table → Table
 unique columns table = record table { uniques = columns ∷ []; orders = plain ∷ [] }
 
--- what members hand in: an id, UNIQUE (member, token), and these columns
+-- a table for members' requests: an id, UNIQUE (member, token), and these columns
 abbrev pub handed_in : List ℕ → List Column → Table
 handed_in name columns =
     unique (2 ∷ 3 ∷ [])
@@ -120,7 +120,7 @@ key_indexes =
     ∷ key_index (codes "sqlite_autoindex_censuses_1") 4 3 (2 ∷ 3 ∷ [])
     ∷ key_index (codes "sqlite_autoindex_census_rows_1") 6 5 (1 ∷ 2 ∷ []) ∷ []
 
--- schema version 1: after the first four tables were made in turn
+-- schema version 1: the first four tables, created in this order
 abbrev pub first_schema : Schema
 first_schema = record {
   tables =

@@ -1,5 +1,5 @@
--- What archives of schema version 1 hold, and what they hold once they were opened: the same, in schema version 2 (the
--- tables of docs/FORMATS.md).
+-- The contents of an archive of schema version 1, and the same contents after an opening has migrated it to version 2
+-- (the tables of docs/FORMATS.md).
 use Rattle.std.specs.Prelude.{◌≡◌, ◌<◌, ◌^◌, ◌↔◌, ℕ, true, false, pos, List, [], ◌∷◌, length, map, Some, IsTrue}
 use Rattle.std.specs.List.{AllByRecursion}
 use Rattle.sqlite_value.specs.declared.value.Value.TheVariants.{Int}
@@ -22,8 +22,8 @@ use Rattle.life_store.specs.Tables.{Tables, tables_in, HasOrder, Holds}
 abbrev pub version_1 : List Row
 version_1 = (Int (pos 1) ∷ Int (pos 1) ∷ []) ∷ []
 
--- The tables of schema version 1 represent these deposits and these censuses, each with its tally, and for no others
--- (Tables.antt). There is no table of flags, so the flags play no part: a database represents them whatever they are.
+-- The tables of schema version 1 represent exactly these deposits and these censuses, each with its tally
+-- (Tables.antt). There is no table of flags, so `k` may have any flags.
 pub record HoldsFirst (t : Tables) (k : Kept) : Type 0 where
   pub schema : t.schema ≡ first_schema
   pub layout : t.layout ≡ version_1
@@ -35,11 +35,12 @@ pub record HoldsFirst (t : Tables) (k : Kept) : Type 0 where
   pub few_deposits : length k.deposits < 2 ^ 63
   pub few_censuses : length k.censuses < 2 ^ 63
 
--- generation n of what a deposit keeps
+-- generation n of a deposit's pattern; generation 0 is the pattern itself
 abbrev pub generation_in : Contents → ℕ → Cells
 generation_in c n = generation_of c.rule c.cells n
 
--- The deposit of the census is there, and the flag is true exactly if its generation is steady under the limit.
+-- The deposit of the census exists, and the flag is true if and only if the counted generation is steady under the
+-- limit.
 pub record IsFlagged (ds : List Deposit) (t : Tallied) : Type 0 where
   pub deposit : Deposit
   pub is : numbered ds t.census.deposit ≡ Some deposit

@@ -1,5 +1,5 @@
--- Used by the contracts of the code alone: the content of the tables while they are migrated, and while flags are
--- added, census by census.
+-- Used only by contracts inside the crate: the contents of the tables during a migration, which adds flags census by
+-- census.
 use Rattle.std.specs.Prelude.{◌≡◌, ℕ, List, map, take, IsTrue}
 use Rattle.std.specs.List.{AllByRecursion}
 use Rattle.sqlite_trees.specs.Tree.{Trees}
@@ -26,19 +26,19 @@ pub record IsFlaggedUpTo (p : Parts) (n : ℕ) (db : Database) : Type 0 where
   pub flagged : AllByRecursion (IsFlagged p.deposits) done
   pub stands : HoldsParts db (record p { flagged = done })
 
--- all of them have, and the layout is the second
+-- all censuses have their flags, and `layout` names version 2
 pub record IsMigrated (p : Parts) (db : Database) : Type 0 where
   pub done : List Tallied
   pub same : map unflagged done ≡ map unflagged p.censuses
   pub flagged : AllByRecursion (IsFlagged p.deposits) done
   pub stands : HoldsParts db (record p { layout = version_2; flagged = done })
 
--- what the transaction that carries tables of schema version 1 over commits
+-- migrating tables of schema version 1 commits these trees
 abbrev pub IsCarriedOver : Database → Trees → Type 0
 IsCarriedOver old db =
     (p : Parts) → AllByRecursion IsFiled p.deposits → HoldsFirstParts old p → p.layout ≡ version_1
     → (after : Database) × (db ≡ after.trees) × IsDatabase after × IsMigrated p after
 
--- what an opening makes of the tables of schema version 1
+-- an opening migrates tables of schema version 1
 abbrev pub Carries : Tables → Tables → Type 0
 Carries old new = (k : Kept) → IsTrue new.is_healthy → HoldsFirst old k → Migrated new k

@@ -1,5 +1,5 @@
--- What files hold before they are opened, and after they are closed. What a database is in files: SQLite's "Database
--- File Format".
+-- The contents of files before they are opened and after they are closed. SQLite's "Database File Format" says how
+-- files hold a database.
 use Rattle.std.specs.Prelude.{◌≡◌, ◌⊎◌, IsTrue, ◌&&◌, ℕ, Bool, true, false, nat_le, pos, List, [], ◌∷◌, map, Option}
 use Rattle.std.specs.Prelude.{None, Some}
 use Rattle.sqlite_value.specs.declared.value.Value.{Value}
@@ -43,20 +43,19 @@ nothing_kept = record { deposits = []; censuses = [] }
 abbrev pub without_log : Image → Image
 without_log image = record image { log = [] }
 
--- The files hold a database that obeys the archive's tables, with rows that represent these.
+-- The files hold a database that obeys the archive's schema, with rows that represent `k`.
 pub record FilesHold (image : Image) (k : Kept) : Type 0 where
   pub trees : Trees
   pub held : ∥ HoldsDatabase image trees ∥₁
   pub sound : IsSound archive_schema trees
   pub holds : Holds (tables_in true 0 false (record { schema = archive_schema; trees = trees })) k
 
--- Each image that a crash may leave of the two files, and the one that they show, holds these: so the next opening
--- finds them.
+-- The two files hold `k` now, and each image that a crash may leave of them does. So the next opening finds it.
 abbrev pub LeftHold : {D : Type 0} → Ghosts D → Files D → Kept → Type 0
 LeftHold g files k = (image : Image) → outcomes g files.log files.db image → FilesHold image k
 
--- The files are recovered to these trees, which are a database. Files that an opening takes have one fact more: the
--- rows of `sqlite_schema` number the trees (`HoldsDatabase`).
+-- Recovery reads these trees from the files, and they are a database. An opening requires one fact more: the rows of
+-- `sqlite_schema` number the trees (`HoldsDatabase`).
 pub record ReadsAs (image : Image) (db : Trees) : Type 0 where
   pub size : ℕ
   pub is_numbered : Bool
@@ -69,46 +68,47 @@ pub record ReadsAs (image : Image) (db : Trees) : Type 0 where
   pub reads : db ≡ file_trees size wanted pages
   pub sound : IsSound schema db
 
--- If the disk has returned what was written, each such image reads as a database that the store allowed.
+-- If the disk has returned everything as it was written, each image that a crash may leave reads as a database that the
+-- store allowed.
 abbrev pub AreReadOf : {D : Type 0} {g : Ghosts D} → FileStore D g → Files D → Type 0
 AreReadOf {D} {g} store files =
     AreClean g files.log files.db → (image : Image) → outcomes g files.log files.db image
     → ∥ ((db : Trees) × recovers store db × ReadsAs image db) ∥₁
 
--- If the disk has returned what was written, each such image holds a database that the store allowed.
+-- The same for images that hold such a database, so that an opening accepts them.
 abbrev pub AreLeftOf : {D : Type 0} {g : Ghosts D} → FileStore D g → Files D → Type 0
 AreLeftOf {D} {g} store files =
     AreClean g files.log files.db → (image : Image) → outcomes g files.log files.db image
     → ∥ ((db : Trees) × recovers store db × HoldsDatabase image db) ∥₁
 
--- A call of the disk failed since, or a limit of the format was met.
+-- Since then, a call of the disk failed or a limit of the format was reached.
 abbrev pub HaveFailedSince : {D : Type 0} {g : Ghosts D} → FileStore D g → Files D → Type 0
 HaveFailedSince {D} {g} was files =
     (last : FileStore D g) × ((files.log, files.db) ≡ store.files last)
     × MoreFaults (store.faults was) (store.faults last)
 
--- What a refused close leaves of a store, if the disk has returned what was written. A crash then has no new outcome,
--- and each is a database. Unless a call of the disk failed in the close, or a limit was met, an opening takes each.
-pub record AreLetGo {D : Type 0} {g : Ghosts D} (was : FileStore D g) (files : Files D) : Type 0 where
+-- A store after a refused close, on a disk that has returned everything as it was written. A crash has no new outcome,
+-- and each outcome is a database. An opening accepts it, unless a disk call failed in the close or a limit was reached.
+pub record AreReleased {D : Type 0} {g : Ghosts D} (was : FileStore D g) (files : Files D) : Type 0 where
   pub honest : AreClean g files.log files.db → IsClean (view was)
   pub read : AreReadOf was files
   pub left : AreClean g files.log files.db → IsTrue (view was).is_open → AreLeftOf was files ⊎ HaveFailedSince was files
 
--- The files hold a database that obeys the tables of schema version 1, with rows that represent these.
+-- The files hold a database that obeys schema version 1, with rows that represent `k`.
 pub record FilesHoldFirst (image : Image) (k : Kept) : Type 0 where
   pub trees : Trees
   pub held : ∥ HoldsDatabase image trees ∥₁
   pub sound : IsSound first_schema trees
   pub holds : HoldsFirst (tables_in true 0 false (record { schema = first_schema; trees = trees })) k
 
--- The files hold a database that obeys the archive's tables, with rows that represent what an opening makes of these.
+-- The files hold a database that obeys the archive's schema, with rows that represent `k` after its migration.
 pub record FilesMigrated (image : Image) (k : Kept) : Type 0 where
   pub trees : Trees
   pub held : ∥ HoldsDatabase image trees ∥₁
   pub migrated : TreesMigrated trees k
 
--- What is shown of files of this image is the database that they are found to hold, whosever it is: the store's trees
--- are its trees, the schema is its schema, and the rows are those of the trees that an archive's tables have.
+-- The view shows the database found in files of this image, even if it is not an archive. The store's trees and the
+-- schema are the database's, and the rows come from the trees that an archive's tables would use.
 pub record ShowsFound {D : Type 0} {g : Ghosts D} (image : Image) (a : ArchiveView (FileStore D g)) : Type 0 where
   pub found : AreFoundIn image (view a.store).committed
   pub sound : IsSound a.tables.schema (view a.store).committed
@@ -119,25 +119,25 @@ pub record ShowsFound {D : Type 0} {g : Ghosts D} (image : Image) (a : ArchiveVi
   pub census_rows : a.tables.census_rows ≡ (view a.store).committed 5
   pub census_flags : a.tables.census_flags ≡ (view a.store).committed 7
 
--- Whatever the files are found to hold lists no table. So it is of two files with no byte: a law says it.
+-- Any database found in the files lists no table. A law shows this for files in which nothing was written yet.
 abbrev pub ListNothing : Image → Type 0
 ListNothing image = (db : Trees) → AreFoundIn image db → IsSound no_schema db
 
 -- ---- what a refused opening leaves
 
--- What the kit leaves of files that it does not open, in its own words: it has written nothing, or each image that a
--- crash may leave represents what was there, or has the trees that were found.
+-- Files that the kit refused to open, by the kit's definition. It has written nothing, or each image that a crash may
+-- leave represents the old contents or has the trees that were found.
 abbrev pub AreLeftUnopened : {D : Type 0} → Ghosts D → Files D → Files D → Type 0
 AreLeftUnopened {D} g files now = (left : Leftover D g) × (files_left left ≡ (now.log, now.db)) × LeavesFiles files left
 
--- What is left of files whose database was opened: each image that a crash may leave holds the archive that they held;
--- or, if they held one of schema version 1, that one or what an opening makes of it.
+-- Files of an opening that failed later. Each image that a crash may leave holds the same archive as before. If that
+-- had schema version 1, it may also be migrated.
 pub record AreLeftOpened {D : Type 0} (g : Ghosts D) (before : Image) (now : Files D) : Type 0 where
   pub held : (k : Kept) → FilesHold before k → LeftHold g now k
   pub first : (k : Kept) → FilesHoldFirst before k → (image : Image) → outcomes g now.log now.db image
       → ∥ FilesHoldFirst image k ⊎ FilesMigrated image k ∥₁
 
--- one of the two, if the disk has returned what was written
+-- one of the two, if the disk has returned everything as it was written
 abbrev pub AreUnharmed : {D : Type 0} → Ghosts D → Files D → Files D → Type 0
 AreUnharmed g files now =
     AreClean g now.log now.db → AreLeftUnopened g files now ⊎ AreLeftOpened g (image_of g files) now
@@ -148,8 +148,8 @@ AreUnharmed g files now =
 abbrev pub versions_in : List Row → List Value
 versions_in rows = map (λ row. column row 1) rows
 
--- The known layouts, each by its tables and by what `layout` names:
--- the archive's tables with version 2 and no other, and those of schema version 1 with version 1 and no other.
+-- The known layouts: the archive's tables with version 2 in the one row of `layout`, and the tables of schema version 1
+-- with version 1 there.
 abbrev pub IsLayout : Schema → List Value → Type 0
 IsLayout schema own =
     ((schema ≡ archive_schema) × (own ≡ Int (pos 2) ∷ [])) ⊎ ((schema ≡ first_schema) × (own ≡ Int (pos 1) ∷ []))
@@ -168,7 +168,7 @@ pub record AreAnothers (image : Image) : Type 0 where
   pub versions : (schema : Schema) (own : List Value) → IsLayout schema own → ¬ FilesHaveVersions schema image own
   pub some : ¬ ListNothing image
 
--- So it is if an opening refuses files as another's, unless the disk has returned other than what was written.
+-- An opening that refuses files with `NotOurs` returns them, and they are another's if the disk is clean.
 abbrev pub AreRefusedAs : {D : Type 0} → Ghosts D → Image → Option (Files D) → Type 0
 AreRefusedAs g image None = ⊥
 AreRefusedAs g image (Some now) = AreClean g now.log now.db → AreAnothers image

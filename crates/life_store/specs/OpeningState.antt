@@ -1,5 +1,5 @@
--- Used by the contracts of the code alone: which tables exist in a database that is opened or closed, and the versions
--- of its layout.
+-- Used only by contracts inside the crate: which tables exist in a database that is opened or closed, and the versions
+-- in its table `layout`.
 use Rattle.std.specs.Prelude.{◌≡◌, ◌⊎◌, ◌||◌, ℕ, Bool, true, false, pos, codes, List, [], ◌∷◌, map, IsTrue}
 use Rattle.std.specs.List.{list_any}
 use Rattle.sqlite_value.specs.declared.value.Value.{Value}
@@ -51,11 +51,11 @@ pub record HaveVersions (s : Schema) (t : Tables) (versions : List Value) : Type
 abbrev pub column_of : List Value → List Row
 column_of values = map (λ v. v ∷ []) values
 
--- a version alone, as a query shows it
+-- one row with this version, as a query shows it
 abbrev pub version_shown : ℕ → List Row
 version_shown n = (Int (pos n) ∷ []) ∷ []
 
--- the version that the tables ask for, by whether there is a table of flags
+-- the version of tables with or without a table of flags
 abbrev pub version_with : Bool → Version
 version_with true = Second
 version_with false = First
@@ -78,13 +78,13 @@ pub record IsSettled (s : State) (t : Tables) : Type 0 where
 abbrev pub IsForeign : Tables → Type 0
 IsForeign t = (schema : Schema) (own : List Value) → IsLayout schema own → HaveVersions schema t own → ⊥
 
--- what a transaction that carries the tables over commits: of an archive's tables nothing
+-- migrating these tables commits these trees; nothing is committed if they are an archive's already
 pub record IsMadeOfOld (t : Tables) (db : Trees) : Type 0 where
   pub archive : (k : Kept) → Holds t k → ⊥
   pub carried : (k : Kept) → HoldsFirst t k → TreesMigrated db k
 
--- what an opening commits in a database with these tables: a new archive, if there is no table; what those of schema
--- version 1 become; of an archive's nothing
+-- opening a database with these tables commits these trees: a new archive if there is no table, migrated tables if they
+-- have schema version 1, and nothing if they are an archive's
 pub record IsMadeOf (t : Tables) (db : Trees) : Type 0 where
   pub old : IsMadeOfOld t db
   pub fresh : t.schema ≡ no_schema → TreesHold db nothing_kept

@@ -1,4 +1,4 @@
--- Used by the contracts of the code alone: what the rows of an answer show, column by column as the queries list them.
+-- Used only by contracts inside the crate: the rows of an answer, with the columns in the order of the queries.
 use Rattle.std.specs.Prelude.{◌≡◌, ◌⊎◌, ℕ, zero, suc, pos, Bool, List, [], ◌∷◌, Option, None, Some}
 use Rattle.std.specs.FinSet as set
 use Rattle.sqlite_value.specs.declared.value.Value.TheVariants.{Null, Int, Text, Blob}
@@ -47,6 +47,6 @@ ShowsFlag (Some b) rows = (more : List Row) × (rows ≡ (Int (pos (flag_number 
 abbrev pub row_shown : List ℕ × ℕ → Row
 row_shown row = Text row.0 ∷ Int (pos row.1) ∷ []
 
--- one row shows the total, or NULL if it is a sum of nothing
+-- one row shows the total, or NULL for a sum of no rows
 abbrev pub ShowsTotal : ℕ → List Row → Type 0
 ShowsTotal n rows = (rows ≡ (Int (pos n) ∷ []) ∷ []) ⊎ ((rows ≡ (Null ∷ []) ∷ []) × (n ≡ 0))

@@ -1,4 +1,5 @@
--- What a crash may leave of an archive. Contracts above the store say it in these words, and nothing of trees or files.
+-- What a crash may leave of an archive. Contracts of `life_desk` and `life_pages` use these definitions, and never
+-- trees or files.
 use Rattle.sqlite_trees.specs.declared.store.Store.{Ghosts}
 use Rattle.sqlite_trees.specs.Tree.{Trees}
 use Rattle.sqlite_trees.specs.View.{IsClean}

@@ -1,4 +1,4 @@
--- Used by the contracts of the code alone: what a statement of SQL leaves.
+-- Used only by contracts inside the crate: the effect of one SQL statement.
 use Rattle.std.specs.Prelude.{◌≡◌, ◌≤◌, Result, IfOk, OnOk, OnErr, IsTrue}
 use Rattle.std.specs.Borrow.{MutBor}
 use Rattle.sqlite_trees.specs.declared.store.Store.{Ghosts}
@@ -11,8 +11,8 @@ use Rattle.life_store.specs.Kept.{Kept}
 use Rattle.life_store.specs.Tables.{Tables, tables_of, Holds, TreesHold, WasHealthy, StaysHealthy, HoldsTheSame}
 use Rattle.life_store.specs.Tables.{ForAllHeld}
 
--- Whatever the disk does in a step: a healthy database stays healthy unless the disk fails, and a crash leaves what it
--- might have left before, or trees of which `Adds` holds.
+-- Whatever the disk does in a step, a healthy database stays healthy unless the disk fails. A crash leaves what it
+-- might have left before, or trees that satisfy `Adds`.
 pub record Withstands {S : Type 0} (g : Ghosts S) (Adds : Trees → Type 0) (old new : Held S) : Type 0 where
   pub lasts : StaysHealthy (tables_of (state g old)) (tables_of (state g new))
   pub crash : CrashLeaves g Adds old.store new.store
@@ -25,18 +25,18 @@ pub record Queries {S A E : Type 0} (g : Ghosts S) (old new : Held S) (result : 
   pub up : HasCleanDisk (state g new) → OnOk result (IsTrue (state g new).is_open)
   pub withstands : Withstands g NothingNew old new
 
--- The same, and its answer is what `Tells` says of whatever the tables represented.
+-- A query outside a transaction whose answer satisfies `Tells` for the contents that the tables represented.
 pub record QueriesFor {S A E : Type 0} (g : Ghosts S) (old new : Held S) (result : Result A E)
     (Tells : Kept → A → Type 0) : Type 0 where
   pub queries : Queries g old new result
   pub tells : ForAllHeld (tables_of (state g old)) (tables_of (state g new)) (λ k. IfOk result (Tells k))
 
--- the trees represent what `adds` makes of whatever the tables represent, if this holds of that
+-- if the tables represent contents for which this is the next item, the trees represent them with the item added
 abbrev pub HoldNext : (Kept → Type 0) → (Kept → Kept) → Tables → Trees → Type 0
 HoldNext IsNext adds old db = (k : Kept) → Holds old k → IsNext k → TreesHold db (adds k)
 
--- What adds something under a number: an `Ok` has added it, if the number is the next one; an `Err` has changed
--- nothing.
+-- Adding an item under a number. If the number is the next one, `Ok` means that the item was added. `Err` means that
+-- nothing changed.
 pub record AddsNext {S A E : Type 0} (g : Ghosts S) (IsNext : Kept → Type 0) (adds : Kept → Kept)
     (old new : Held S) (result : Result A E) : Type 0 where
   pub lost : WasHealthy (tables_of (state g old)) (tables_of (state g new))

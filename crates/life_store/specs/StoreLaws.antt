@@ -1,4 +1,4 @@
--- What makes the definitions of archives believable.
+-- Laws that check the definitions of archives.
 use Rattle.std.specs.Prelude.{◌≡◌, map}
 use Rattle.sqlite_wal.specs.Recovery.{Image}
 use Rattle.sqlite.specs.Files.{IsNothing}
@@ -11,11 +11,11 @@ use Rattle.life_store.specs.Tables.{Tables, Holds}
 abbrev pub BlankFilesListNothing : Type 0
 BlankFilesListNothing = (image : Image) → IsNothing image → ListNothing image
 
--- Rows represent one list of deposits and one list of censuses at most.
+-- Rows represent at most one list of deposits and one list of censuses.
 abbrev pub OneMeaning : Type 0
 OneMeaning = (t : Tables) (a b : Kept) → Holds t a → Holds t b → a ≡ b
 
--- So do those of schema version 1, but for the flags, which it does not have.
+-- Rows of schema version 1 also represent at most one list of each, apart from the flags, which they lack.
 abbrev pub OneFirstMeaning : Type 0
 OneFirstMeaning =
     (t : Tables) (a b : Kept) → HoldsFirst t a → HoldsFirst t b

@@ -1,4 +1,4 @@
--- The rows that deposits and censuses are kept as: the tables of docs/FORMATS.md, column by column.
+-- The rows in which deposits and censuses are stored: the tables of docs/FORMATS.md, column by column.
 -- As in SQLite's file format ("Representation Of SQL Tables") a row begins with its rowid, and where a column is that
 -- id (INTEGER PRIMARY KEY), its own place holds NULL.
 use Rattle.std.specs.Prelude.{◌≡◌, ℕ, ◌+◌, pos, Ok, Bool, if◌then◌else◌, List, [], ◌∷◌, ◌++◌, map}
@@ -23,7 +23,7 @@ deposit_cells d =
     Null ∷ Text d.member ∷ Text d.token ∷ Text (rule_text d.content.rule) ∷ Int (pos (set.len d.content.cells))
     ∷ Blob (text d.content) ∷ []
 
--- what each deposit keeps: its rule is one without births from nothing, and its file is read as its record again
+-- a deposit that can be stored: its rule has no B0, and reading its file gives the same record again
 pub record IsFiled (d : Deposit) : Type 0 where
   pub rule : IsRule d.content.rule
   pub again : kept (text d.content) ≡ Ok d.content
@@ -39,10 +39,11 @@ census_cells t =
 abbrev pub count_cells : ℕ × (List ℕ × ℕ) → Row
 count_cells r = Int (pos r.0) ∷ Text r.1.0 ∷ Int (pos r.1.1) ∷ []
 
--- census_flags: census (in front), steady
+-- true is stored as 1, and false as 0
 abbrev pub flag_number : Bool → ℕ
 flag_number b = if b then 1 else 0
 
+-- census_flags: census (in front), steady
 abbrev pub flag_cells : Tallied → Row
 flag_cells t = Null ∷ Int (pos (flag_number t.steady)) ∷ []
 
@@ -50,7 +51,7 @@ flag_cells t = Null ∷ Int (pos (flag_number t.steady)) ∷ []
 abbrev pub tagged : ℕ → List (List ℕ × ℕ) → List (ℕ × (List ℕ × ℕ))
 tagged id rows = map (λ row. (id, row)) rows
 
--- the rows of the tallies of all censuses, one census after another, the first of which has the number
+-- the tally rows of all censuses in turn; the first census has the number `id`
 abbrev pub counts_from : ℕ → List Tallied → List (ℕ × (List ℕ × ℕ))
 counts_from id [] = []
 counts_from id (t ∷ ts) = tagged id t.tally.rows ++ counts_from (id + 1) ts

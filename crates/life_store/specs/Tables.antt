@@ -1,6 +1,6 @@
--- What contracts see of an archive: its tables as they are, and what their rows represent (the tables of
--- docs/FORMATS.md). What a table is, its rows with their ids and its schema: the kit's `sqlite`, after SQLite's
--- "Database File Format" and "CREATE TABLE".
+-- What contracts see of an archive: its tables, and the deposits and censuses that their rows represent
+-- (docs/FORMATS.md). The kit's `sqlite` defines tables, rows with ids, and schemas, after SQLite's "Database File
+-- Format" and "CREATE TABLE".
 use Rattle.std.specs.Prelude.{◌≡◌, ◌<◌, ◌≤◌, ◌+◌, ◌^◌, ◌⊎◌, ◌&&◌, ◌++◌, ℕ, pos, Bool, true, false, List, [], ◌∷◌}
 use Rattle.std.specs.Prelude.{length, map, IsTrue, refl}
 use Rattle.std.specs.Coded.{Coded, code_by, coded×, coded_ℕ, coded_bool, coded_list}
@@ -28,11 +28,12 @@ use Rattle.life_store.specs.Stored.{IsFiled, rows_by, deposit_cells, census_cell
 
 -- the tables of a database
 pub record Tables : Type 0 where
-  -- The database is open, and its disk has returned what was written. If it is false, the rest says nothing.
+  -- The database is open, and its disk has returned everything as it was written. If false, the other fields mean
+  -- nothing.
   pub is_healthy : Bool
   -- how often the disk has failed or refused so far, and once more if it has returned other than what was written
   pub faults : ℕ
-  -- A transaction is open: the rows are as it sees them. If none is, they are committed.
+  -- A transaction is open, and the rows are as it sees them. Otherwise they are committed.
   pub in_transaction : Bool
   pub schema : Schema
   pub layout : List Row
@@ -41,8 +42,8 @@ pub record Tables : Type 0 where
   pub census_rows : List Row
   pub census_flags : List Row
 
--- an archive: its tables, how many deposits and how many censuses it takes, and its store, which the clauses on crashes
--- are about
+-- an archive: its tables, its capacity (one number, for deposits and for censuses), and its store, which the clauses on
+-- crashes are about
 pub record ArchiveView (S : Type 0) : Type 0 where
   pub tables : Tables
   pub capacity : ℕ
@@ -120,7 +121,7 @@ version_2 = (Int (pos 1) ∷ Int (pos 2) ∷ []) ∷ []
 abbrev pub HasOrder : TallyCounts → Type 0
 HasOrder t = IsStrictlySortedBy row_cmp (map (λ (row : List ℕ × ℕ). row.0) t.rows)
 
--- The tables represent these deposits and these censuses, each with its tally and its flag, and for no others:
+-- The tables represent exactly these deposits and these censuses, each with its tally and its flag:
 -- the schema is the archive's, no transaction is open, `layout` names version 2,
 -- and the rows of `deposits`, `censuses`, `census_rows` and `census_flags` are theirs, in this order, under the ids 1,
 -- 2, 3 and so on.
@@ -132,7 +133,7 @@ pub record Holds (t : Tables) (k : Kept) : Type 0 where
   pub censuses : t.censuses ≡ rows_by census_cells 1 k.censuses
   pub census_rows : t.census_rows ≡ rows_by count_cells 1 (counts_from 1 k.censuses)
   pub census_flags : t.census_flags ≡ rows_by flag_cells 1 k.censuses
-  -- each file is read as its record again
+  -- reading each file gives its record again
   pub filed : AllByRecursion IsFiled k.deposits
   -- the rows of each tally are in the order in which they are queried
   pub ordered : AllByRecursion (λ t. HasOrder t.tally) k.censuses
@@ -147,7 +148,7 @@ pub record TreesHold (db : Trees) (k : Kept) : Type 0 where
 
 -- ---- what a call does
 
--- a database that is healthy was healthy
+-- a database that is healthy after the call was healthy before it
 abbrev pub WasHealthy : Tables → Tables → Type 0
 WasHealthy old new = IsTrue new.is_healthy → IsTrue old.is_healthy
 
@@ -160,7 +161,7 @@ pub record IsStayingHealthy (old new : Tables) : Type 0 where
   pub faults : old.faults ≤ new.faults
   pub is_healthy : IsTrue old.is_healthy → IsTrue new.is_healthy ⊎ HasFailed old new
 
--- the same, as calls pass it on
+-- the same, kept closed so that proofs pass it from call to call
 unfoldable pub StaysHealthy : Tables → Tables → Type 0
 StaysHealthy old new = IsStayingHealthy old new
 
@@ -168,25 +169,25 @@ StaysHealthy old new = IsStayingHealthy old new
 abbrev pub IsHealthyIfClean : {S : Type 0} → Ghosts S → ArchiveView S → Type 0
 IsHealthyIfClean g a = IsClean (g.view a.store) → IsTrue a.tables.is_healthy
 
--- the tables represent what they represented
+-- the tables still represent the same contents
 abbrev pub HoldsTheSame : Tables → Tables → Type 0
 HoldsTheSame old new = (k : Kept) → IsTrue new.is_healthy → Holds old k → Holds new k
 
--- a fact of all that the tables represented before the call, known if the database is healthy after it
+-- `P` holds for the contents that the tables represented before the call, if the database is healthy after it
 abbrev pub ForAllHeld : Tables → Tables → (Kept → Type 0) → Type 0
 ForAllHeld old new P = (k : Kept) → IsTrue new.is_healthy → Holds old k → P k
 
--- the tables represent one deposit more, the last
+-- the tables represent the same contents with the deposit appended
 abbrev pub AddsDeposit : Tables → Tables → Deposit → Type 0
 AddsDeposit old new d =
     (k : Kept) → IsTrue new.is_healthy → Holds old k → Holds new (record k { deposits = k.deposits ++ d ∷ [] })
 
--- the tables represent one census more, the last
+-- the tables represent the same contents with the census appended
 abbrev pub AddsCensus : Tables → Tables → Tallied → Type 0
 AddsCensus old new t =
     (k : Kept) → IsTrue new.is_healthy → Holds old k → Holds new (record k { censuses = k.censuses ++ t ∷ [] })
 
--- The database was healthy, and whatever its tables represented, the trees represent what the change makes of it.
+-- The database was healthy, and the trees represent the contents of its tables after the change.
 abbrev pub HoldChanged : Tables → (Kept → Kept) → Trees → Type 0
 HoldChanged old change db = IsTrue old.is_healthy × ((k : Kept) → Holds old k → TreesHold db (change k))
 

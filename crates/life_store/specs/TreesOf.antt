@@ -1,11 +1,11 @@
--- What an archive leaves when it is given up for its store.
+-- The trees of an archive that was given up for its store.
 use Rattle.std.specs.Prelude.{◌≡◌, false, IsTrue}
 use Rattle.sqlite_trees.specs.Tree.{Trees}
 use Rattle.sqlite_catalog.specs.Listing.{IsSound}
 use Rattle.life_store.specs.Tables.{Tables}
 
--- The database was healthy, with no transaction open, and its tables were these trees, which obey its schema. Those
--- between them are of indexes.
+-- The database was healthy, with no transaction open, and its tables were these trees, which obey its schema. The trees
+-- numbered in between are indexes.
 pub record AreTreesOf (t : Tables) (trees : Trees) : Type 0 where
   pub healthy : IsTrue t.is_healthy
   pub committed : t.in_transaction ≡ false

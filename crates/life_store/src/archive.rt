@@ -26,16 +26,16 @@ use std::marker::Model;
 
 /// Deposits and censuses in the tables of a database (docs/FORMATS.md), over any store of `sqlite`: memory, or files.
 ///
-/// Contracts see the tables, whatever is in them, and the capacity. What a call does is said for all deposits and
-/// censuses that the tables represent before it, if the database is healthy after it: it is open, and its disk has
-/// returned what was written. Each call either does its one act, or is Unavailable and changes nothing. A number is a place in
-/// its list, from 1.
+/// Contracts see the tables, whatever their contents, and the capacity. A clause speaks about all deposits and censuses
+/// that the tables represent before the call. It holds if the database is healthy after the call: open, on a disk that
+/// returned everything as it was written. Each call either does its one act, or is `Unavailable` and changes nothing.
+/// Deposits and censuses are numbered from 1, in the order in which they were added.
 pub struct Archive<S: Alter> {
     pub(crate) conn: Connection<S>,
     pub(crate) capacity: u64,
 }
 
-// It is written out, so that a caller does not prove again how each part is dropped.
+// Written out, so that callers don't prove again how each part is dropped.
 impl<S: Alter + Drop> Drop for Archive<S> {
     fn drop(self) {
         let Archive {
@@ -59,7 +59,7 @@ impl<S: Alter> Model for Archive<S> {
 }
 
 impl<S: Alter> Archive<S> {
-    /// The connection to the tables.
+    /// Gives up the archive for its connection, to close it or to read its trees.
     pub(crate) fn into_connection(self) -> Connection<S>
         ensures tables { tables_of (state S.Store result) ≡ self.tables }
         ensures store { result.store ≡ self.store }
@@ -91,8 +91,8 @@ impl<S: Alter> Archive<S> {
         let _ = &self.conn;
     }
 
-    /// The most deposits, and the most censuses, that the archive takes. No call here enforces it: the caller has to.
-    /// It does not ask the store.
+    /// The most deposits, and the most censuses, that the archive accepts. The caller has to enforce it: no call here
+    /// does. The store is not queried.
     pub fn capacity(&self) -> u64
         ensures { result ≡ self.now.capacity }
     {
@@ -270,16 +270,15 @@ impl<S: Alter> Archive<S> {
         }
     }
 
-    /// Adds a census with the rows of its tally and with its flag in one transaction, and answers its number. Whether its
-    /// member and token are kept already, whether the tally is that of its deposit, and whether the generation that it
-    /// counted is steady, is for the caller to see to.
+    /// Adds a census with its tally's rows and its flag in one transaction, and returns its number. The caller has to
+    /// check first that its member and token are not stored yet, and that the tally and the flag belong to its deposit.
     pub fn add_census(
         &mut self,
         census: &Census,
         tally: &Tally,
         steady: bool,
     ) -> Result<u64, Unavailable>
-        // The codes of a tally that `tally` made ascend.
+        // The codes of a tally that `life_census` counted ascend.
         requires { HasOrder tally.now }
         ensures transition { IsTransition S.Store (HoldChanged self.old.tables (λ k. record k { censuses = k.censuses ++ record { census = census.now; tally = tally.now; steady = steady } ∷ [] })) self.old self.new }
         ensures healthy { OnOk result (IsHealthyIfClean S.Store self.new) }
@@ -309,8 +308,8 @@ impl<S: Alter> Archive<S> {
         all_rows(alloc, rows.as_slice())
     }
 
-    /// The rows of the tally of the census of the number, in byte order of their codes, and its flag, or `None`. A tally without
-    /// rows is stored only as its census, so the flag is queried first.
+    /// The tally's rows, in byte order of their codes, and the flag of the census with the number, or `None`. The flag
+    /// is queried first, since a stored tally may have no rows.
     pub fn rows_and_flag_of(
         &mut self,
         alloc: Global,
@@ -330,7 +329,7 @@ impl<S: Alter> Archive<S> {
         }
     }
 
-    /// The rows of the tally of the census of the number, in byte order of their codes, or none.
+    /// The tally's rows of the census with the number, in byte order of their codes, or `None`.
     pub fn rows_of(&mut self, alloc: Global, id: u64) -> Result<Option<Rows>, Unavailable>
         ensures transition { IsTransition S.Store NothingNew self.old self.new }
         ensures healthy { OnOk result (IsHealthyIfClean S.Store self.new) }
@@ -373,8 +372,9 @@ impl<S: Alter> Archive<S> {
 }
 
 impl<S: Alter + Drop> Archive<S> {
-    /// The store of the archive, and whether no transaction was open: then its tables are trees of the store, which obey its schema.
-    /// What is not committed is lost. For a look at every row, in the order of the trees, which no query tells.
+    /// The archive's store, and whether no transaction was open. If that is true, its tables are trees of the store
+    /// that obey its schema. Uncommitted changes are lost. `life_check` reads every row this way, in tree order, which
+    /// no query shows.
     pub fn into_trees(self) -> (bool, S)
         ensures trees { IsTrue result.0 → IsClean (S.Store.view result.1) → (S.Store.view result.1).is_broken ≡ false → AreTreesOf self.tables (S.Store.view result.1).trees }
         ensures honest { doubt (S.Store.view self.store).is_clean ≤ doubt (S.Store.view result.1).is_clean }
@@ -391,8 +391,8 @@ impl<S: Alter + Drop> Archive<S> {
 }
 
 impl Archive<MemStore> {
-    /// An archive in memory is healthy, whatever was refused: no call finds its disk failed. So what the calls say of a database
-    /// that is healthy after them holds of it outright. A law: calling it does nothing.
+    /// An archive in memory is always healthy, even after a refused call: its disk never fails. So clauses that assume
+    /// a healthy database after the call always hold for it. A law: calling it does nothing.
     pub fn law_of_memory(&self)
         ensures healthy { IsTrue self.now.tables.is_healthy }
         ensures faults { self.now.tables.faults ≡ 0 }

@@ -23,7 +23,7 @@ use crate::store_fault::Unavailable;
 use life_census::{Row as TallyRow, Tally};
 use sqlite::{Alter, Connection, Error, Row, Transaction};
 
-/// The greatest number.
+/// The greatest number of a census, or no row if there are no censuses.
 pub(crate) fn newest<S: Alter>(conn: &mut Connection<S>) -> Result<Vec<Row>, Error>
     ensures { QueriesFor S.Store conn.old conn.new result (λ k rows. rows.items ≡ newest_rows (length k.censuses)) }
 {
@@ -34,7 +34,7 @@ pub(crate) fn newest<S: Alter>(conn: &mut Connection<S>) -> Result<Vec<Row>, Err
     )
 }
 
-/// The census of the number.
+/// The row of the census with the number, if any.
 pub(crate) fn show<S: Alter>(conn: &mut Connection<S>, id: i64) -> Result<Vec<Row>, Error>
     ensures { QueriesFor S.Store conn.old conn.new result (λ k rows. (n : ℕ) → id ≡ pos n → ShowsCensus (option_map (λ t. (n, t)) (numbered k.censuses n)) rows.items) }
 {
@@ -45,7 +45,7 @@ pub(crate) fn show<S: Alter>(conn: &mut Connection<S>, id: i64) -> Result<Vec<Ro
     )
 }
 
-/// The census of the member and the token.
+/// The row of the census with the member and the token, if any.
 pub(crate) fn find<'a, S: Alter>(
     conn: &mut Connection<S>,
     member: &'a [u8],
@@ -60,7 +60,7 @@ pub(crate) fn find<'a, S: Alter>(
     )
 }
 
-/// The rows of the tally of the census of the number.
+/// The tally's rows of the census with the number, in byte order of their codes.
 pub(crate) fn rows_of<S: Alter>(conn: &mut Connection<S>, id: i64) -> Result<Vec<Row>, Error>
     ensures { QueriesFor S.Store conn.old conn.new result (λ k rows. (n : ℕ) → id ≡ pos n → IfSome (numbered k.censuses n) (λ t. rows.items ≡ map row_shown t.tally.rows)) }
 {
@@ -71,7 +71,7 @@ pub(crate) fn rows_of<S: Alter>(conn: &mut Connection<S>, id: i64) -> Result<Vec
     )
 }
 
-/// The row of the census, with the numbers of its tally.
+/// Inserts the row of the census, which includes its tally's totals. A number over 63 bits is refused.
 fn insert_census<S: Alter>(
     tx: &mut Transaction<'_, S>,
     id: u64,
@@ -107,7 +107,7 @@ fn insert_census<S: Alter>(
     Ok(())
 }
 
-/// A row of the tally of the census of the number.
+/// Inserts one row of the tally of the census with the number.
 fn insert_row<S: Alter>(
     tx: &mut Transaction<'_, S>,
     id: u64,
@@ -131,7 +131,7 @@ fn insert_row<S: Alter>(
     Ok(())
 }
 
-/// A row for each of these.
+/// Inserts these rows of the tally, in their order.
 fn insert_rows<S: Alter>(
     tx: &mut Transaction<'_, S>,
     id: u64,
@@ -147,7 +147,7 @@ fn insert_rows<S: Alter>(
     Ok(())
 }
 
-/// The census under the number, the rows of its tally, and its flag.
+/// Inserts the census under the number, its tally's rows, and its flag. After an error the caller rolls back.
 fn insert_with_flag<S: Alter>(
     tx: &mut Transaction<'_, S>,
     id: u64,
@@ -190,7 +190,7 @@ pub(crate) fn insert<S: Alter>(
     }
 }
 
-/// How many clusters with the code the censuses have whose deposits have the rule.
+/// How many clusters with the code there are in all censuses of deposits with the rule: one row, with NULL for none.
 pub(crate) fn total<'a, S: Alter>(
     conn: &mut Connection<S>,
     rule: &'a [u8],

@@ -14,7 +14,7 @@ ghost use Rattle.life_store.specs.Statements.{StaysInside};
 
 use sqlite::{Alter, Connection, Error, Transaction};
 
-/// Creates the table of flags next to those of schema version 1.
+/// Creates the table of flags, which schema version 1 lacks. New archives and migrations share it.
 pub(crate) fn create_census_flags<S: Alter>(tx: &mut Transaction<'_, S>) -> Result<usize, Error>
     ensures added { HasCleanDisk (state S.Store tx.new.conn.now) → IsTrue tx.old.conn.now.in_transaction → (p : Parts) → HoldsFirstParts (state S.Store tx.old.conn.now).now p → OnOk result (IsTrue tx.new.conn.now.in_transaction × HoldsParts (state S.Store tx.new.conn.now).now (record p { flagged = [] })) }
     ensures stays { StaysInside S.Store tx.old.conn tx.new.conn result }

@@ -16,7 +16,7 @@ use crate::store_fault::Unavailable;
 use sqlite::{Alter, Connection, Error, Row};
 use std::alloc::Global;
 
-/// The greatest number.
+/// The greatest number of a deposit, or no row if there are no deposits.
 pub(crate) fn newest<S: Alter>(conn: &mut Connection<S>) -> Result<Vec<Row>, Error>
     ensures { QueriesFor S.Store conn.old conn.new result (λ k rows. rows.items ≡ newest_rows (length k.deposits)) }
 {
@@ -27,7 +27,7 @@ pub(crate) fn newest<S: Alter>(conn: &mut Connection<S>) -> Result<Vec<Row>, Err
     )
 }
 
-/// The deposit of the number.
+/// The row of the deposit with the number, if any.
 pub(crate) fn show<S: Alter>(conn: &mut Connection<S>, id: i64) -> Result<Vec<Row>, Error>
     ensures { QueriesFor S.Store conn.old conn.new result (λ k rows. (n : ℕ) → id ≡ pos n → ShowsDeposit (option_map (λ d. (n, d)) (numbered k.deposits n)) rows.items) }
 {
@@ -38,7 +38,7 @@ pub(crate) fn show<S: Alter>(conn: &mut Connection<S>, id: i64) -> Result<Vec<Ro
     )
 }
 
-/// The deposit of the member and the token.
+/// The row of the deposit with the member and the token, if any.
 pub(crate) fn find<'a, S: Alter>(
     conn: &mut Connection<S>,
     member: &'a [u8],
@@ -64,7 +64,7 @@ pub(crate) fn list_after<S: Alter>(conn: &mut Connection<S>, id: i64) -> Result<
     )
 }
 
-/// What a deposit's row has besides its number, member and token.
+/// The columns of a deposit's row that are computed from its pattern.
 #[derive(Drop)]
 struct Values {
     rule: String,
@@ -72,7 +72,7 @@ struct Values {
     file: Vec<u8>,
 }
 
-/// The values of a deposit's row.
+/// Computes these columns; the file is the pattern's canonical text.
 fn values_of(alloc: Global, deposit: &Deposit) -> Result<Values, Unavailable>
     requires { IsInside 1024 deposit.now.content.cells }
     ensures { IfOk result (λ v. AreValuesOf deposit.now (string_bytes v.rule) v.population v.file.items) }
@@ -113,7 +113,7 @@ fn insert<S: Alter>(
     )
 }
 
-/// Adds the deposit under the number.
+/// Computes the columns and adds the deposit under the number, which has to be the next one.
 pub(crate) fn add<S: Alter>(
     conn: &mut Connection<S>,
     alloc: Global,

@@ -36,7 +36,7 @@ pub(crate) fn sql_blob<'a>(bytes: &'a [u8]) -> ValueRef<'a>
     ValueRef::Blob(bytes)
 }
 
-/// A truth value, as SQL has it: 1 or 0.
+/// A flag as an INTEGER of SQL: 1 or 0.
 pub(crate) fn flag<'a>(steady: bool) -> ValueRef<'a>
     ensures { owned result ≡ Int (pos (flag_number steady)) }
 {
@@ -95,7 +95,8 @@ pub(crate) fn query_inside<S: Alter>(
     Ok(tx.query_all(sql, params)?)
 }
 
-/// The same for a query about a number.
+/// All rows of the answer to a query inside a transaction, with a number as its parameter. More than 63 bits are
+/// refused.
 pub(crate) fn query_about<S: Alter>(
     tx: &mut Transaction<'_, S>,
     sql: &str,

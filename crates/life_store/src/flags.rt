@@ -15,7 +15,7 @@ use crate::executing::{flag, query, sql_integer};
 use crate::store_fault::Unavailable;
 use sqlite::{Alter, Connection, Error, Row, Transaction};
 
-/// The flag of the census of the number.
+/// The flag of the census with the number, or no row.
 pub(crate) fn show<S: Alter>(conn: &mut Connection<S>, id: i64) -> Result<Vec<Row>, Error>
     ensures { QueriesFor S.Store conn.old conn.new result (λ k rows. (n : ℕ) → id ≡ pos n → ShowsFlag (option_map (λ t. t.steady) (numbered k.censuses n)) rows.items) }
 {
@@ -26,7 +26,7 @@ pub(crate) fn show<S: Alter>(conn: &mut Connection<S>, id: i64) -> Result<Vec<Ro
     )
 }
 
-/// The flag of the census of the number, inside a transaction.
+/// Inserts the flag of the census with the number. A number over 63 bits is refused.
 pub(crate) fn insert<S: Alter>(
     tx: &mut Transaction<'_, S>,
     id: u64,

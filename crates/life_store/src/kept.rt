@@ -5,19 +5,19 @@ ghost use Rattle.std.specs.Prelude.{◌≡◌};
 use life_rle::{Record, Text};
 use std::marker::Model;
 
-/// A pattern file, under the member and the token that it came with.
+/// A pattern file, with the member and the token of the request that stored it.
 #[derive(Debug, Drop)]
 pub struct Deposit {
     /// The member's name.
     pub member: Text,
     /// The member's token. No two deposits that were added after a lookup share member and token.
     pub token: Text,
-    /// The record of the file.
+    /// The name, author, comments, rule and live cells of the file.
     pub content: Record,
 }
 
-/// A census: which generation of which deposit was counted, under the member and the token that it came with. Its
-/// tally is stored separately.
+/// A census: which generation of which deposit was counted, with the member and the token of the request. Its tally is
+/// stored separately.
 #[derive(Debug, Drop)]
 pub struct Census {
     /// The member's name.
@@ -28,7 +28,7 @@ pub struct Census {
     pub deposit: u64,
     /// The generation that was counted.
     pub generation: u32,
-    /// The limit on the period for the codes.
+    /// The longest period that was searched for when its clusters got their codes.
     pub limit: u32,
 }
 
@@ -73,14 +73,14 @@ impl Model for Listing {
 }
 
 impl Listing {
-    /// These lines.
+    /// A listing of these lines, which a query returned in ascending order of number.
     pub(crate) fn of(lines: Vec<Listed>) -> Listing
         ensures { result ≡ lines.items }
     {
         Listing { lines }
     }
 
-    /// The lines.
+    /// The lines, in ascending order of number.
     pub fn as_slice(&self) -> &[Listed]
         ensures { result.now ≡ self.now }
     {

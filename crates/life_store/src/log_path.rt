@@ -19,13 +19,13 @@ pub(crate) fn missing_log(rt: &HostRuntime, path: &str) -> Option<String> {
     }
 }
 
-/// Removes the log of the name if it has no commit. It is for one that this process made and holds the database file of.
+/// Removes the named log if it has no commit. Only for a log that this process made, while it holds the database file.
 pub(crate) fn remove_blank(rt: &HostRuntime, name: &str) {
     let Ok(found) = fs::symlink_metadata(rt, name) else {
         return;
     };
     if found.is_file() && found.len() <= BLANK {
-        // If it is not removed, it lies there as an empty log does.
+        // If removing fails, the file stays and counts as an empty log.
         let _ = fs::remove_file(rt, name);
     }
 }

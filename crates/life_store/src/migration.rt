@@ -48,7 +48,7 @@ fn is_steady(alloc: Global, content: &Record, number: u32, limit: u32) -> Result
     Ok(steady(alloc, &content.rule, &pattern, limit)?)
 }
 
-/// The greatest number of a census.
+/// The greatest number of a census, or no row if there are no censuses.
 fn newest_census<S: Alter>(tx: &mut Transaction<'_, S>) -> Result<Vec<Row>, Unavailable>
     ensures tells { HasCleanDisk (state S.Store tx.new.conn.now) → (p : Parts) → HoldsParts (state S.Store tx.old.conn.now).now p → IfOk result (λ rows. (rows.items ≡ newest_rows (length p.censuses)) × HoldsParts (state S.Store tx.new.conn.now).now p) }
     ensures stays { StaysInside S.Store tx.old.conn tx.new.conn result }
@@ -56,7 +56,7 @@ fn newest_census<S: Alter>(tx: &mut Transaction<'_, S>) -> Result<Vec<Row>, Unav
     query_inside(tx, "SELECT id FROM censuses ORDER BY id DESC LIMIT 1", &[])
 }
 
-/// The census of the number.
+/// The row of the census with the number, if any.
 fn show_census<S: Alter>(tx: &mut Transaction<'_, S>, id: u64) -> Result<Vec<Row>, Unavailable>
     ensures tells { HasCleanDisk (state S.Store tx.new.conn.now) → (p : Parts) → HoldsParts (state S.Store tx.old.conn.now).now p → IfOk result (λ rows. ShowsCensus (option_map (λ t. (id, t)) (numbered p.censuses id)) rows.items × HoldsParts (state S.Store tx.new.conn.now).now p) }
     ensures stays { StaysInside S.Store tx.old.conn tx.new.conn result }
@@ -68,7 +68,7 @@ fn show_census<S: Alter>(tx: &mut Transaction<'_, S>, id: u64) -> Result<Vec<Row
     )
 }
 
-/// The deposit of the number.
+/// The row of the deposit with the number, if any.
 fn show_deposit<S: Alter>(tx: &mut Transaction<'_, S>, id: u64) -> Result<Vec<Row>, Unavailable>
     ensures tells { HasCleanDisk (state S.Store tx.new.conn.now) → (p : Parts) → AllByRecursion IsFiled p.deposits → HoldsParts (state S.Store tx.old.conn.now).now p
         → IfOk result (λ rows. ShowsDeposit (option_map (λ d. (id, d)) (numbered p.deposits id)) rows.items × HoldsParts (state S.Store tx.new.conn.now).now p) }
@@ -110,7 +110,7 @@ fn numbers_at<S: Alter>(
     }
 }
 
-/// The deposit of the number.
+/// The deposit with the number. A missing one is an error, since a census refers to it.
 fn deposit_at<S: Alter>(
     alloc: Global,
     tx: &mut Transaction<'_, S>,
@@ -143,7 +143,7 @@ fn migrate_one<S: Alter>(
     flags::insert(tx, id, steady)
 }
 
-/// The same for each census, in the order of their numbers.
+/// Computes and adds the flag of each census, in the order of their numbers.
 fn migrate_each<S: Alter>(
     alloc: Global,
     tx: &mut Transaction<'_, S>,
@@ -181,7 +181,7 @@ fn migrate_all<S: Alter>(alloc: Global, tx: &mut Transaction<'_, S>) -> Result<(
     name_version(tx)
 }
 
-/// The same in one transaction, which is rolled back if it fails.
+/// Migrates in one transaction, which is rolled back if it fails.
 fn migrate_at_once<S: Alter>(alloc: Global, conn: &mut Connection<S>) -> Result<(), Unavailable>
     requires { conn.old.in_transaction ≡ false }
     ensures migrated { HasCleanDisk (state S.Store conn.new) → (p : Parts) → AllByRecursion IsFiled p.deposits → HoldsFirstParts (state S.Store conn.old).now p → p.layout ≡ version_1 → OnOk result (IsMigrated p (state S.Store conn.new).now) }

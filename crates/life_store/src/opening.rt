@@ -19,7 +19,7 @@ ghost use Rattle.life_store.specs.MigrationState.{Carries};
 ghost use Rattle.life_store.specs.Kept.{Kept};
 ghost use Rattle.life_store.specs.CreatingState.{HasTables};
 ghost use Rattle.life_store.specs.Layout.{no_schema};
-ghost use Rattle.life_store.specs.Opening.{is_capacity, nothing_kept, without_log, IsLayout, FilesHaveVersions, FilesHold, FilesHoldFirst, LeftHold, AreLeftOf, AreLetGo, HaveFailedSince, AreUnharmed, AreRefusedAs, ListNothing};
+ghost use Rattle.life_store.specs.Opening.{is_capacity, nothing_kept, without_log, IsLayout, FilesHaveVersions, FilesHold, FilesHoldFirst, LeftHold, AreLeftOf, AreReleased, HaveFailedSince, AreUnharmed, AreRefusedAs, ListNothing};
 ghost use Rattle.life_store.specs.OpeningState.{IsSettled, IsMadeOfOld, IsMadeOf, AreLeftMade, HaveVersions, has_table, has_view, has_name, has_some, column_of, version_shown, version_with, rows_of_version, schema_of};
 ghost use Rattle.life_store.specs.Tables.{tables_of, Holds, TreesHold, HoldsTheSame, IsHealthyIfClean};
 
@@ -43,7 +43,7 @@ const SEED: u64 = 1;
 /// A new archive's file stores a checksum for each page. An existing file stays as it is.
 pub(crate) const WITH_CHECKSUMS: bool = true;
 
-/// Whether an archive may take this many.
+/// Whether an archive may have this many deposits.
 fn is_capacity(capacity: u64) -> bool
     ensures { result ≡ is_capacity capacity }
 {
@@ -89,11 +89,11 @@ fn has_some(schema: &Schema) -> bool
 enum Version {
     /// Without a table of flags.
     First,
-    /// With one.
+    /// With a table of flags.
     Second,
 }
 
-/// The rows that name the schema version.
+/// The first two rows of `layout`. A second row already shows that the database is not an archive.
 fn versions<S: Alter>(conn: &mut Connection<S>) -> Result<Vec<Row>, Error>
     ensures same { (schema : SchemaValue) (own : List Value) → IsLayout schema own → IsTrue (tables_of (state S.Store conn.new)).is_healthy → (state S.Store conn.old).now.schema ≡ schema → (state S.Store conn.new).now ≡ (state S.Store conn.old).now }
     ensures tells { (schema : SchemaValue) (own versions : List Value) → IsLayout schema own → IsTrue (tables_of (state S.Store conn.new)).is_healthy → HaveVersions schema (tables_of (state S.Store conn.old)) versions → IfOk result (λ rows. (rows.items ≡ column_of own) ↔ (versions ≡ own)) }
@@ -105,7 +105,7 @@ fn versions<S: Alter>(conn: &mut Connection<S>) -> Result<Vec<Row>, Error>
     query(conn, "SELECT * FROM layout ORDER BY 1 LIMIT 2", &[])
 }
 
-/// Whether the rows say just version 1.
+/// Whether the table `layout` has one row, with version 1.
 fn is_version_1(rows: &[Row]) -> bool
     ensures { IsTrue result ↔ (rows.now ≡ version_shown 1) }
 {
@@ -125,7 +125,7 @@ fn is_version_2(rows: &[Row]) -> bool
     }
 }
 
-/// The version of the tables, if it is the one that the rows name.
+/// The version that the tables have and `layout` names; if the two differ, `NotOurs`.
 fn version_named(has_flags: bool, rows: &[Row]) -> Result<Version, OpenFault>
     ensures found { IfOk result (λ v. (v ≡ version_with has_flags) × (rows.now ≡ rows_of_version v)) }
     ensures named { rows.now ≡ rows_of_version (version_with has_flags) → result ≢ Err OpenFault.NotOurs }
@@ -143,7 +143,7 @@ fn version_named(has_flags: bool, rows: &[Row]) -> Result<Version, OpenFault>
     Err(OpenFault::NotOurs)
 }
 
-/// The version of the tables, some of which exist.
+/// The version of a database that has some of the tables. Without `layout` it is `NotOurs`.
 fn version_of<S: Alter>(conn: &mut Connection<S>) -> Result<Version, OpenFault>
     ensures same { OnOk result ((schema : SchemaValue) (own : List Value) → IsLayout schema own → IsTrue (tables_of (state S.Store conn.new)).is_healthy → (state S.Store conn.old).now.schema ≡ schema → (state S.Store conn.new).now ≡ (state S.Store conn.old).now) }
     ensures found { (schema : SchemaValue) (own versions : List Value) → IsLayout schema own → IsTrue (tables_of (state S.Store conn.new)).is_healthy → HaveVersions schema (tables_of (state S.Store conn.old)) versions → IfOk result (λ v. (versions ≡ own) × (schema ≡ schema_of v)) }
@@ -165,7 +165,7 @@ fn version_of<S: Alter>(conn: &mut Connection<S>) -> Result<Version, OpenFault>
     }
 }
 
-/// Checks that the tables, some of which exist, are those of an archive, and migrates those of schema version 1.
+/// Checks that the database, which has some of the tables, is an archive, and migrates it from schema version 1.
 fn check_or_migrate<S: Alter>(alloc: Global, conn: &mut Connection<S>) -> Result<(), OpenFault>
     ensures keeps { OnOk result (HoldsTheSame (tables_of (state S.Store conn.old)) (tables_of (state S.Store conn.new))) }
     ensures carries { OnOk result (Carries (tables_of (state S.Store conn.old)) (tables_of (state S.Store conn.new))) }
@@ -188,7 +188,7 @@ fn check_or_migrate<S: Alter>(alloc: Global, conn: &mut Connection<S>) -> Result
     }
 }
 
-/// Checks that the tables are those of an archive; if none of them exists, creates them.
+/// Checks that the database is an archive and migrates it if necessary. If none of the tables exists, creates them.
 fn prepare<S: Alter>(alloc: Global, conn: &mut Connection<S>) -> Result<(), OpenFault>
     ensures keeps { OnOk result (HoldsTheSame (tables_of (state S.Store conn.old)) (tables_of (state S.Store conn.new))) }
     ensures carries { OnOk result (Carries (tables_of (state S.Store conn.old)) (tables_of (state S.Store conn.new))) }
@@ -243,12 +243,12 @@ fn idle_connection<S: Alter + Drop>(archive: Archive<S>) -> Result<Connection<S>
     ensures numbered { IfErr result (λ store. IsClean (S.Store.view store) → IsTrue (S.Store.view store).is_numbered) }
     ensures sound { IfErr result (λ store. IsClean (S.Store.view store) → AreDatabases (S.Store.recovers store)) }
     ensures was_open { IfErr result (λ _. IsTrue archive.tables.is_healthy → IsTrue (S.Store.view archive.store).is_open) }
-    // The law of crashes too, so that a caller passes on the traits of its store once.
+    // Includes the law of crashes, so that callers pass on the traits of the store only once.
     ensures crash { IsTrue archive.tables.is_healthy → (k : Kept) → Holds archive.tables k → (db : Trees) → S.Store.recovers archive.store db → TreesHold db k }
 {
     archive.law_of_crashes();
     let conn = archive.into_connection();
-    // What it says of the tables is wanted: a connection obeys them.
+    // Called only for its clause: the database obeys its schema.
     let _tables = conn.schema();
     if !conn.is_autocommit() {
         return Err(conn.into_store());
@@ -256,7 +256,7 @@ fn idle_connection<S: Alter + Drop>(archive: Archive<S>) -> Result<Connection<S>
     Ok(conn)
 }
 
-/// The store of the archive. A function of its own, so that `into_files` passes on the traits of its store once.
+/// The store of the archive. A separate function, so that `into_files` passes on the traits of the store only once.
 fn store_of<S: Alter + Drop>(archive: Archive<S>) -> S
     ensures numbered { IsClean (S.Store.view result) → IsTrue (S.Store.view result).is_numbered }
     ensures sound { IsClean (S.Store.view result) → AreDatabases (S.Store.recovers result) }
@@ -268,15 +268,15 @@ fn store_of<S: Alter + Drop>(archive: Archive<S>) -> S
     archive.into_connection().into_store()
 }
 
-/// Closes the connection as its `close_files` does, and returns its files, even if closing fails. In between it holds the store itself, so that
-/// more can be said of a close that was refused.
+/// Closes the connection as its `close_files` does, and returns its files, even if closing fails. It works on the store
+/// itself, which makes the clause about a refused close stronger.
 fn close<D: Disk + Drop>(conn: Connection<FileStore<D>>) -> Result<Files<D>, Files<D>>
     ensures usable { IfOk result (λ files. IsTrue (D.Disk.is_usable files.log) × IsTrue (D.Disk.is_usable files.db)) }
     ensures copied { IfOk result (λ files. AreClean D.Disk files.log files.db → IsCopied conn files) }
-    ensures refused { IfErr result (AreLetGo conn.store) }
+    ensures refused { IfErr result (AreReleased conn.store) }
 {
     let mut store = conn.into_store();
-    // Again, for what only this store's rollback says of the log.
+    // Rolled back once more, because only this store's `rollback` has a clause about the log.
     store.rollback();
     match store.checkpoint() {
         Ok(()) => Ok(store.close()),
@@ -284,8 +284,8 @@ fn close<D: Disk + Drop>(conn: Connection<FileStore<D>>) -> Result<Files<D>, Fil
     }
 }
 
-/// The connection as an archive, once its tables were seen to; else the fault, with the connection where the
-/// database is not an archive's, and with only its store in other cases.
+/// Makes the connection an archive after creating or migrating its tables. A fault returns the connection if the
+/// database is not an archive's, and otherwise only its store.
 fn prepared_archive<S: Alter + Drop>(
     alloc: Global,
     conn: Connection<S>,
@@ -316,8 +316,8 @@ fn prepared_archive<S: Alter + Drop>(
     }
 }
 
-/// The connection as an archive, once its tables were seen to; else the fault and the files. Those of a database
-/// that is not an archive's are closed as `close_files` closes them; others are given back with no IO.
+/// Makes the connection an archive after creating or migrating its tables. A fault returns the files. Those of a
+/// database that is not an archive's are closed first, as in `close_files`; others are returned without IO.
 fn archive_over<D: Disk + Drop>(
     alloc: Global,
     conn: Connection<FileStore<D>>,
@@ -346,10 +346,10 @@ fn archive_over<D: Disk + Drop>(
 }
 
 impl<D: Disk + Drop> Archive<FileStore<D>> {
-    /// The archive that the files hold; if they hold none of its tables, a new one. An archive of schema version 1 is
-    /// migrated in one transaction, in which each census gets its flag; if that fails, it is Unavailable, and the files
-    /// hold the old archive or the migrated one. What the capacity was before plays no part. A refused opening gives the
-    /// files back: with BadCapacity as they were, and with NotOurs once they were closed.
+    /// Opens the archive in the files, or creates one if they have none of its tables. An archive of schema version 1
+    /// is migrated in one transaction, which gives each census its flag. If that fails, it is `Unavailable`, and the
+    /// files hold the old archive or the migrated one. The capacity may differ from the one before. A refused opening
+    /// returns the files: with `BadCapacity` unchanged, with `NotOurs` closed.
     pub fn open_files(
         alloc: Global,
         files: Files<D>,
@@ -370,7 +370,7 @@ impl<D: Disk + Drop> Archive<FileStore<D>> {
         ensures versions { IfErr result (λ e. (schema : SchemaValue) (own : List Value) → IsLayout schema own → AreClean D.Disk e.1.log e.1.db → FilesHaveVersions schema (image_of D.Disk files) own → e.0 ≢ OpenFault.NotOurs) }
         ensures none { IfErr result (λ e. AreClean D.Disk e.1.log e.1.db → ListNothing (image_of D.Disk files) → e.0 ≢ OpenFault.NotOurs) }
         ensures clean { IfErr result (λ e. AreClean D.Disk e.1.log e.1.db → e.0 ≡ OpenFault.NotOurs → AreClean D.Disk files.log files.db) }
-        // After a refusal the files still have what they had: a crash finds that, or what a migration made of it.
+        // A refusal loses nothing: a crash after it leaves the old contents, or the migrated ones.
         ensures unharmed { IfErr result (λ e. AreUnharmed D.Disk files e.1) }
     {
         if !is_capacity(capacity) {
@@ -382,17 +382,19 @@ impl<D: Disk + Drop> Archive<FileStore<D>> {
         }
     }
 
-    /// Closes the archive and returns its files, even if closing fails. Files that were closed hold what the
-    /// archive held, and so does the database file with no log.
+    /// Closes the archive and returns its files, even if closing fails. Once closed, the database file holds the
+    /// complete archive, with or without its log.
     pub fn close_files(self) -> Result<Files<D>, (Unavailable, Files<D>)>
         ensures usable { IfOk result (λ files. IsTrue (D.Disk.is_usable files.log) × IsTrue (D.Disk.is_usable files.db)) }
         ensures held { IfOk result (λ files. (k : Kept) → AreClean D.Disk files.log files.db → Holds self.tables k → FilesHold (image_of D.Disk files) k) }
         ensures alone { IfOk result (λ files. (k : Kept) → AreClean D.Disk files.log files.db → Holds self.tables k → FilesHold (without_log (image_of D.Disk files)) k) }
-        // So does each image that a crash may leave of them then. If the disk returned what was written, the archive was healthy to the end.
+        // Each image that a crash may leave after the close holds the archive too. If the disk returned everything as
+        // it was written, the archive was healthy to the end.
         ensures left { IfOk result (λ files. (k : Kept) → AreClean D.Disk files.log files.db → Holds self.tables k → LeftHold D.Disk files k) }
         ensures healthy { IfOk result (λ files. AreClean D.Disk files.log files.db → IsTrue self.tables.is_healthy) }
-        // If the close is refused, a crash finds nothing new; and, unless a call of the disk failed in the close, what the archive held.
-        ensures refused { IfErr result (λ e. AreLetGo self.store e.1) }
+        // After a refused close, a crash has no new outcome. Unless a call of the disk failed in the close, it leaves
+        // the archive's contents.
+        ensures refused { IfErr result (λ e. AreReleased self.store e.1) }
         ensures kept { IfErr result (λ e. (k : Kept) → IsTrue self.tables.is_healthy → Holds self.tables k → AreClean D.Disk e.1.log e.1.db → LeftHold D.Disk e.1 k ⊎ HaveFailedSince self.store e.1) }
     {
         match idle_connection(self) {
@@ -404,8 +406,8 @@ impl<D: Disk + Drop> Archive<FileStore<D>> {
         }
     }
 
-    /// Returns the files without any IO, as a crash at this moment would leave them: what is not committed is lost, and the log is not
-    /// copied into the database file. What the archive held is in the two files together, and the next opening finds it.
+    /// Returns the files without any IO, as a crash at this moment would leave them. Uncommitted changes are lost, and
+    /// the log is not copied into the database file. The next opening finds the archive in the two files together.
     pub fn into_files(self) -> Files<D>
         ensures honest { AreClean D.Disk result.log result.db → IsClean (view self.store) }
         ensures left { AreLeftOf self.store result }
@@ -416,8 +418,8 @@ impl<D: Disk + Drop> Archive<FileStore<D>> {
 }
 
 impl<D: Disk + Drop> Archive<FileStore<D>> {
-    /// Closes the archive and opens its files again, with another capacity: what it held is found again. If the close or
-    /// the opening is refused, the files are given back; those of an archive are not refused as another's.
+    /// Closes the archive and opens its files again, with another capacity and the same contents. If the close or the
+    /// opening is refused, the files are returned. An archive is never refused with `NotOurs`.
     pub fn reopen(
         self,
         alloc: Global,
@@ -436,8 +438,8 @@ impl<D: Disk + Drop> Archive<FileStore<D>> {
     }
 }
 
-/// Removes the log that an opening made and left with no commit. The caller holds the files until it is gone, so that they are locked and
-/// no other opening takes it up.
+/// Removes the log that an opening made and left without a commit. The caller still holds the files: they are locked,
+/// so no other opening can use the log.
 fn remove_unmade(rt: &HostRuntime, unmade: Option<String>) {
     if let Some(name) = unmade {
         remove_blank(rt, name.as_str());
@@ -445,10 +447,10 @@ fn remove_unmade(rt: &HostRuntime, unmade: Option<String>) {
 }
 
 impl<T: Start> Archive<FileStore<FileFrom<T>>> {
-    /// The archive in the file of the path and its log; a new one if they have none of its tables. An
-    /// archive of schema version 1 is migrated, as `open_files` does it. `start` says what the two files are taken to hold:
-    /// `sqlite::Unknown` says nothing of files that are not empty. A refused opening gives the files back, if they were
-    /// opened; and if it made a log that has no commit, beside a file that was there, it removes it.
+    /// Opens the archive in the file at the path and its log, or creates one if they have none of its tables. An
+    /// archive of schema version 1 is migrated, as in `open_files`. `start` states the assumed contents of the two
+    /// files: `sqlite::Unknown` assumes nothing about files that are not empty. A refused opening returns the files, if
+    /// they were opened. If it made a log for an existing file and committed nothing, it removes that log.
     pub fn open_path(
         rt: &HostRuntime,
         path: &str,

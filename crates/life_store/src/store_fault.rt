@@ -1,4 +1,4 @@
-//! Why a call gives up.
+//! The errors of calls, and of opening an archive.
 
 ghost use Rattle.std.specs.Prelude.{◌≡◌};
 
@@ -41,8 +41,8 @@ impl From<Error> for Unavailable {
 pub enum OpenFault {
     /// The capacity is not from 1 to 1,000,000. It is checked first.
     BadCapacity = 1,
-    /// Some of an archive's tables exist, and `layout` is missing or does not have exactly one row: of version 2, or where
-    /// there is no table of flags, of version 1.
+    /// Some of an archive's tables exist, but `layout` is missing or isn't one row with the right version. That is 2,
+    /// or without a table of flags 1.
     NotOurs = 2,
     /// The store or an allocation failed, or the files hold no database; or an archive of schema version 1 has a row that no
     /// archive writes.

@@ -20,7 +20,7 @@ pub struct MadeLog {
 }
 
 impl MadeLog {
-    /// Removes that log if it has no commit. The caller still holds the files, so that no other opening takes it up.
+    /// Removes that log if it has no commit. Call it while holding the files, so that no other opening can use the log.
     pub fn remove(&self, rt: &HostRuntime) {
         if let Some(name) = &self.name {
             remove_blank(rt, name.as_str());
@@ -28,7 +28,7 @@ impl MadeLog {
     }
 }
 
-/// Whether there are no contents to look at: no file, or an empty one without a log, into which an opening would write a header.
+/// Whether there is no file, or an empty one without a log. An opening would write a header into the empty one.
 fn has_nothing(rt: &HostRuntime, path: &str) -> bool {
     match fs::metadata(rt, path) {
         Ok(found) => found.len() == 0 && missing_log(rt, path).is_some(),
@@ -37,9 +37,9 @@ fn has_nothing(rt: &HostRuntime, path: &str) -> bool {
 }
 
 impl<T: Start> Archive<FileStore<FileFrom<T>>> {
-    /// The contents of the file of the path and its log, whether it is an archive or not: its tables stay as they are. `start` is
-    /// as for `open_path`. A file that does not exist, or is empty and has no log, is refused. A refused opening gives the files
-    /// back, if they were opened.
+    /// Opens the file at the path and its log, whether or not it is an archive, and leaves its tables unchanged.
+    /// `start` is as for `open_path`. A file that does not exist, or is empty and has no log, is refused. A refused
+    /// opening returns the files, if they were opened.
     pub fn open_unprepared(
         rt: &HostRuntime,
         path: &str,

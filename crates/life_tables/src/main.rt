@@ -1,5 +1,6 @@
-//! Prints tables of the program `life` as JSON: the explanations of refusals by name, the refusals over HTTP, and the routes. They
-//! are the constants that the program itself uses. tools/make-tables reads what this prints from the file `stdout` beside.
+//! Prints tables of the program `life` as JSON: the explanations of refusals by name, the refusals over HTTP, and the
+//! routes. They are the constants that the program itself uses. The output is stored in this crate's file `stdout`,
+//! which tools/make-tables reads.
 #![tactic(auto)]
 
 use life_desk::REFUSALS;
@@ -8,12 +9,12 @@ use life_words::{explanation, refusal_names};
 use serde_json::to_string;
 use std::io;
 
-/// The end of an item's line.
+/// The end of an item's line: JSON has no comma after the last item.
 fn comma(is_last: bool) -> &'static str {
     if is_last { "" } else { "," }
 }
 
-/// Each name with its lines.
+/// Prints each name with its explanation as a JSON string. An explanation may have several lines.
 fn print_explanations(rt: &HostRuntime) -> anyhow::Result<()> {
     let names = refusal_names(rt.alloc())?;
     for (at, name) in names.iter().enumerate() {
@@ -24,7 +25,7 @@ fn print_explanations(rt: &HostRuntime) -> anyhow::Result<()> {
     Ok(())
 }
 
-/// A refusal over HTTP.
+/// Prints one refusal. Names need no escapes in JSON.
 fn print_refusal(
     rt: &HostRuntime,
     number: u8,
@@ -36,7 +37,7 @@ fn print_refusal(
     println!(rt; "    {{ \"number\": {number}, \"name\": \"{name}\", \"status\": {status} }}{end}")
 }
 
-/// The refusals over HTTP: those of requests, and then those of messages.
+/// Prints the refusals over HTTP in the order of their numbers: first of requests, then of messages.
 fn print_refusals(rt: &HostRuntime) -> io::Result<()> {
     for refusal in &REFUSALS {
         print_refusal(
@@ -60,7 +61,7 @@ fn print_refusals(rt: &HostRuntime) -> io::Result<()> {
     Ok(())
 }
 
-/// Each route.
+/// Prints the method and the path of each route, in the order of docs/API.md.
 fn print_routes(rt: &HostRuntime) -> io::Result<()> {
     let routes = routes();
     for (at, (method, path, _)) in routes.iter().enumerate() {

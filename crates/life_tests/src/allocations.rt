@@ -1,5 +1,5 @@
-//! Calls whose allocations fail in turn: they return out of memory, or succeed with less room, and give their answer when they are
-//! repeated with memory.
+//! Failing each allocation of some calls in turn. The calls have to report out of memory, or succeed with less room,
+//! and to succeed when they are repeated with memory.
 ghost use Rattle.std.specs.Prelude.{◌<◌};
 
 use crate::refusing::Refusing;
@@ -9,8 +9,8 @@ use std::alloc::Global;
 /// More allocations than any of the calls makes.
 const MANY: u64 = 1000;
 
-/// Makes the calls with this allocation failing, and then with memory. Returns whether it failed, that is, whether they made that many
-/// allocations; `None` if an answer was wrong.
+/// Makes the calls with this allocation failing, and then with memory. Returns whether the calls got as far as this
+/// allocation; `None` if a result was wrong.
 fn refuse_one<F: Fn(&Refusing) -> Result<bool, Fault>>(
     alloc: Global,
     are_right: &F,
@@ -32,8 +32,8 @@ fn refuse_one<F: Fn(&Refusing) -> Result<bool, Fault>>(
     }
 }
 
-/// Fails the first allocation of the calls, then the second, and so on, until all have failed once. An `Err` has the number of the first
-/// one with a wrong answer, or 1 if the calls make no allocations.
+/// Fails the first allocation of the calls, then the second, and so on, until each has failed once. An `Err` has the
+/// number of the first one that led to a wrong result, or 1 if the calls make no allocations.
 pub fn refuse_each<F: Fn(&Refusing) -> Result<bool, Fault>>(
     alloc: Global,
     are_right: &F,

@@ -1,13 +1,13 @@
-//! Command lines, and the jobs that their arguments name.
+//! Reading command lines, for the tests of each program's arguments.
 use life_words::WordFault;
 use std::alloc::{AllocError, Global};
 
-/// The arguments of a command line, the program's name first.
+/// The arguments of a command line, the program's name first. There is no quoting.
 fn arguments<'a>(alloc: Global, line: &'a str) -> Result<Vec<&'a str>, AllocError> {
     line.split_whitespace().collect(alloc)
 }
 
-/// Whether what was read of arguments is the job, or a usage error if there is none.
+/// Whether reading arguments gave this job, or a usage error if `job` is `None`.
 pub fn is_named<J: Copy + PartialEq>(read: Result<J, WordFault>, job: Option<J>) -> bool {
     match read {
         Ok(named) => job == Some(named),
@@ -16,7 +16,7 @@ pub fn is_named<J: Copy + PartialEq>(read: Result<J, WordFault>, job: Option<J>)
     }
 }
 
-/// The first of these command lines whose arguments don't name its job, or that should be a usage error and is not.
+/// The first of these command lines that doesn't give its expected job or usage error.
 pub fn other_line<J: Copy, F: Fn(Global, &[&str], Option<J>) -> bool>(
     alloc: Global,
     lines: &[(&'static str, Option<J>)],

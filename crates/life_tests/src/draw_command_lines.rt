@@ -20,7 +20,7 @@ const LINES: [(&str, Option<Picture>); 10] = [
     ),
 ];
 
-/// Whether the arguments name the picture, or are a usage error if there is none.
+/// Whether the arguments name the picture, or are a usage error if it is `None`.
 fn name(alloc: Global, words: &[&str], picture: Option<Picture>) -> bool {
     is_named(read_draw_words(alloc, words), picture)
 }

@@ -1,4 +1,4 @@
-//! Files that are drawn over streams in memory: whole, byte by byte, and with a take or a put that fails.
+//! Drawing files over streams in memory: in one piece, byte by byte, and with a read or a write that fails.
 use crate::job_streams::{End, Run, other_run};
 use life_jobs::Stop;
 use life_pictures::{Picture, laws_of_pictures, run_draw};
@@ -26,7 +26,7 @@ const EMPTY_SVG: &str = "\
 </svg>
 ";
 
-/// Two cells under a name that XML has to escape, or can't have.
+/// Two cells with a name whose characters XML has to escape, or can't have.
 const NAMED: &str = "#N <&> \"ä\" \u{1}\rx\u{FFFF}\nx = 3, y = 1\nobo!\n";
 
 const NAMED_SVG: &str = "\
@@ -45,7 +45,7 @@ const NO_HEADER: End = End::Stopped(Stop::BadPattern(RleFault::NoHeader));
 
 const TOO_WIDE: End = End::Stopped(Stop::BadPattern(RleFault::TooWide));
 
-/// What is drawn, what is refused, and streams that fail.
+/// Pictures that are drawn, files that are refused, and streams that fail.
 const RUNS: [Run<Picture>; 17] = [
     (Picture::Text, GLIDER, End::Done(GLIDER_TEXT)),
     (Picture::Svg, GLIDER, End::Done(GLIDER_SVG)),
@@ -53,7 +53,7 @@ const RUNS: [Run<Picture>; 17] = [
     (Picture::Svg, EMPTY, End::Done(EMPTY_SVG)),
     (Picture::Text, NAMED, End::Done("▀ ▀\n")),
     (Picture::Svg, NAMED, End::Done(NAMED_SVG)),
-    // A line without a cell, and one with cells of its lower row alone.
+    // A line of text shows two rows: one line without a cell, and one with a cell only in its lower row.
     (
         Picture::Text,
         "x = 2, y = 6\n2o5$bo!\n",
@@ -71,7 +71,7 @@ const RUNS: [Run<Picture>; 17] = [
     (Picture::Svg, GLIDER, End::Unwritable("<svg xmln")),
 ];
 
-/// Draws the file that comes.
+/// Draws the file from the input.
 fn drawn(
     alloc: Global,
     picture: Picture,

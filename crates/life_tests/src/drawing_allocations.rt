@@ -1,11 +1,11 @@
-//! Each allocation of a picture refused in turn.
+//! Failing each allocation of drawing a picture in turn.
 use crate::allocations::refuse_each;
 use crate::refusing::Refusing;
 use life_core::Fault;
 use life_pictures::{Picture, animation, svg, text};
 use life_rle::{Record, RleFault, read};
 
-/// A file whose document is longer than a few allocations give room for.
+/// A file whose picture is so long that its buffer has to grow several times.
 const FILE: &[u8] = b"#N A & B\nx = 9, y = 3\nobobobobo2$bobobobo!\n";
 
 const TEXT: &str = "▀ ▀ ▀ ▀ ▀\n ▀ ▀ ▀ ▀\n";
@@ -18,7 +18,7 @@ const SVG: &str = "\
 </svg>
 ";
 
-/// The file and its next generation, which is seven cells side by side.
+/// The file's pattern and its next generation, which is seven cells in a row.
 const ANIMATION: &str = "\
 <svg xmlns=\"http://www.w3.org/2000/svg\" viewBox=\"-1 -1 11 5\" shape-rendering=\"crispEdges\">
 <title>A &amp; B</title>

@@ -1,4 +1,4 @@
-//! Failing each allocation of a call in turn, and each take and each put of a stream in turn.
+//! Failing each allocation of a call in turn, and each read and each write of a stream in turn.
 ghost use Rattle.std.specs.Prelude.{◌<◌};
 
 use crate::allocations::refuse_each;
@@ -40,7 +40,7 @@ fn has_text<A: Allocator + Copy>(alloc: A, record: &Record<A>, text: &str) -> Re
     Ok(write(alloc, record)?.as_slice() == text.as_bytes())
 }
 
-/// Whether the file is read from a stream in pieces of this many bytes. Out of memory has no other answer.
+/// Whether the file is read from a stream in pieces of this many bytes. A failed allocation has to give out of memory.
 fn is_read(alloc: Global, refusing: &Refusing, file: File, piece: usize) -> Result<bool, Fault>
     requires { 0 < piece }
 {
@@ -62,7 +62,8 @@ fn pieces_are_read(alloc: Global, refusing: &Refusing, file: File) -> Result<boo
     Ok(true)
 }
 
-/// Whether the text of the record is put in pieces of 3 bytes. Out of memory puts nothing, and has no other answer.
+/// Whether the text of the record is written in pieces of 3 bytes. A failed allocation has to give out of memory, with
+/// nothing written.
 fn is_put<'a>(
     alloc: Global,
     refusing: &'a Refusing,
@@ -86,7 +87,7 @@ fn has_table<'a>(
     Ok(csv(alloc, counts)?.as_slice() == table.as_bytes())
 }
 
-/// A call over a file, and its answer.
+/// A call over a file, and its expected result.
 #[derive(Clone, Copy, Debug)]
 enum Call {
     /// `read_from` in pieces: the canonical text.
@@ -99,13 +100,13 @@ enum Call {
     Clusters(usize),
     /// `tally` under limit 2: its CSV.
     Tally(&'static str),
-    /// `steady` under limit 2: it is.
+    /// `steady` under limit 2: true.
     Steady,
-    /// `tally_and_steady` under limit 2: the CSV, and it is.
+    /// `tally_and_steady` under limit 2: the CSV, and true.
     TallyAndSteady(&'static str),
 }
 
-/// Whether a call over the cells of a field answers as it should.
+/// Whether a call over the cells of a field gives the expected result.
 fn field_is_right<'a>(
     alloc: &'a Refusing,
     cells: &Pattern<&'a Refusing>,
@@ -129,7 +130,7 @@ fn field_is_right<'a>(
     }
 }
 
-/// Whether the call over the file answers as it should.
+/// Whether the call over the file gives the expected result.
 fn call_is_right(
     alloc: Global,
     refusing: &Refusing,
@@ -149,7 +150,7 @@ fn call_is_right(
     }
 }
 
-/// The first of the calls over the file that is not right if an allocation is refused, and which allocation it is.
+/// The first of the calls over the file that goes wrong if an allocation fails, with the number of the allocation.
 fn other_refused(alloc: Global, source: &'static str, calls: &[Call]) -> Option<(Call, u64)> {
     for call in calls.iter().copied() {
         let is_right = |refusing: &Refusing| call_is_right(alloc, refusing, source, call);
@@ -178,7 +179,7 @@ struct Field {
     table: &'static str,
 }
 
-/// Two blocks at distance 3, two at distance 2, and a block and a blinker.
+/// Two blocks at distance 3, which are two clusters; two at distance 2, which are one; and a block and a blinker.
 const FIELDS: [Field; 3] = [
     Field {
         file: "x = 0, y = 0\n2o2b2o$2o2b2o!",
@@ -215,15 +216,15 @@ fn fields_with_each_allocation_refused(rt: HostRuntime) {
     }
 }
 
-/// A stream with a call that fails.
+/// Which calls of a stream fail: reads or writes.
 #[derive(Clone, Copy, Debug)]
 enum Failing {
     Takes,
     Puts,
 }
 
-/// Whether a file that is read in pieces of this many bytes is unreadable if the take of this number fails, and it is the last; or is right, if there is no
-/// such take.
+/// Whether reading a file in pieces of this many bytes stops as unreadable at the read with this number, which fails.
+/// If there is no such read, whether the file is read correctly.
 fn answers_take(alloc: Global, file: File, piece: usize, take: u64, is_made: bool) -> bool
     requires { 0 < piece }
 {
@@ -238,8 +239,8 @@ fn answers_take(alloc: Global, file: File, piece: usize, take: u64, is_made: boo
     }
 }
 
-/// Whether a record that is written in pieces of this many bytes is unwritable if the put of this number fails, with what was put before it; or all is put,
-/// if there is no such put.
+/// Whether writing a record in pieces of this many bytes stops as unwritable at the write with this number, which
+/// fails, and keeps the output before it. If there is no such write, whether the output is complete.
 fn answers_put(alloc: Global, file: File, piece: usize, put: u64, is_made: bool) -> bool
     requires { 0 < piece }
 {
@@ -258,18 +259,19 @@ fn answers_put(alloc: Global, file: File, piece: usize, put: u64, is_made: bool)
         && file.text.as_bytes().starts_with(bytes)
 }
 
-/// How many takes or puts there are of the file in pieces of this many bytes.
+/// How many reads or writes the file needs in pieces of this many bytes.
 fn calls(failing: Failing, file: File, piece: usize) -> u64
     requires { 0 < piece }
 {
     match failing {
-        // The last take finds the end.
+        // The last read finds the end.
         Failing::Takes => (file.source.len().div_ceil(piece) as u64).saturating_add(1),
         Failing::Puts => file.text.len().div_ceil(piece) as u64,
     }
 }
 
-/// The first call of the stream in pieces of this many bytes that is not answered as it should be if it fails, or one too many.
+/// The first call of the stream, in pieces of this many bytes, whose failure is not handled correctly. One call more
+/// than the stream makes is tested too.
 fn other_call(alloc: Global, failing: Failing, file: File, piece: usize) -> Option<u64>
     requires { 0 < piece }
 {
@@ -305,7 +307,7 @@ const GLIDER_LATER: [(i64, i64); 5] = [(2, 1), (3, 2), (1, 3), (2, 3), (3, 3)];
 
 const BLINKER: [(i64, i64); 3] = [(0, 0), (1, 0), (2, 0)];
 
-/// The phase of the toad that its code spells.
+/// The toad in the phase that its code `xp2_7e` describes.
 const TOAD: [(i64, i64); 6] = [(0, 0), (0, 1), (0, 2), (1, 1), (1, 2), (1, 3)];
 
 /// Whether generation 4 of the first pattern is the second.

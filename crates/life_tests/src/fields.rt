@@ -1,4 +1,4 @@
-//! The clusters of a field in their order, and fields that are steady.
+//! The order of a field's clusters, which cells belong together, and which fields are steady.
 use life_census::{
     clusters, laws_of_clusters, laws_of_steady_fields, laws_of_tallies, steady, tally_and_steady,
 };
@@ -21,7 +21,7 @@ const LEAST_CELLS: [Cell; 4] = [
     Cell { row: 5, column: 0 },
 ];
 
-/// Whether there are as many clusters as cells, and each cluster has the cell with its index.
+/// Whether there are as many clusters as cells, and each cluster contains the cell with its index.
 fn each_has(found: &[Pattern], cells: &[Cell]) -> bool {
     if found.len() != cells.len() {
         return false;
@@ -34,7 +34,7 @@ fn each_has(found: &[Pattern], cells: &[Cell]) -> bool {
     true
 }
 
-/// Whether the clusters are in the order of their least cells, and a cell that is near one of them is in it.
+/// Whether the clusters are in the order of their least cells, and a near cell belongs to the third one.
 fn clusters_are_in_order(alloc: Global) -> Result<bool, Fault> {
     let field = Pattern::from_cells(alloc, &CELLS)?;
     let found = clusters(alloc, &field)?;
@@ -51,25 +51,25 @@ fn clusters_stand_by_their_least_cells(rt: HostRuntime) {
 
 /// Files, and the numbers of clusters of their fields.
 const CLUSTERS: [(&str, usize); 10] = [
-    // Five cells of a row, and one that is two rows below and two columns, and then three, beside the last.
+    // Five cells in a row and one cell two rows below, two and then three columns to the right of the last.
     ("x = 0, y = 0\n5o2$6bo!", 1),
     ("x = 0, y = 0\n5o2$7bo!", 2),
-    // The same beside the first.
+    // The same, to the left of the first.
     ("x = 0, y = 0\n2b5o2$o!", 1),
     ("x = 0, y = 0\n3b5o2$o!", 2),
     // Three rows below.
     ("x = 0, y = 0\n5o3$2bo!", 2),
-    // In their row.
+    // In the same row.
     ("x = 0, y = 0\n5obo!", 1),
     ("x = 0, y = 0\n5o2bo!", 2),
-    // Two columns that a row joins at their ends.
+    // Two columns, joined at their ends by a row.
     ("x = 0, y = 0\no5bo$o5bo$7o!", 1),
     // Three rows that are not near each other, and the same with a path from each to the next.
     ("x = 0, y = 0\n9o3$9o3$9o!", 3),
     ("x = 0, y = 0\n9o$o$o$9o$8bo$8bo$9o!", 1),
 ];
 
-/// How many clusters the field of the file is, if it is read.
+/// How many clusters the file's field has, if the file can be read.
 fn clusters_of_file(alloc: Global, file: &str) -> Option<usize> {
     match read(alloc, file.as_bytes()) {
         Ok(record) => match clusters(alloc, &record.cells) {
@@ -103,14 +103,13 @@ const STEADY: [(&str, u32, bool); 10] = [
     ("x = 0, y = 0\no2bo$o2bo$o2bo!", 2, false),
     ("x = 0, y = 0\no3bo$o3bo$o3bo!", 2, false),
     ("x = 0, y = 0\no4bo$o4bo$o4bo!", 2, true),
-    // Two blinkers that are never near each other at one time, but come near where the other has been.
+    // Two blinkers that are never near each other at the same time, but whose phases come near each other.
     ("x = 0, y = 0\n3o3$bo$bo$bo!", 2, false),
     // A glider.
     ("x = 0, y = 0\nbo$2bo$3o!", 4, false),
 ];
 
-/// Whether the field is steady under Life and the limit, if both are within their bounds and a census
-/// answers the same.
+/// Whether the field is steady under Life and the limit. `None` if either is out of range, or if a census disagrees.
 fn is_steady(alloc: Global, field: &Pattern, limit: u32) -> Option<bool> {
     if limit < 1 || limit > PERIOD_LIMIT || !field.within(400_000_000) {
         return None;
@@ -122,7 +121,7 @@ fn is_steady(alloc: Global, field: &Pattern, limit: u32) -> Option<bool> {
     }
 }
 
-/// Whether the field of the file is steady under Life and the limit, if it is read.
+/// Whether the file's field is steady under Life and the limit, if the file can be read.
 fn is_file_steady(alloc: Global, file: &str, limit: u32) -> Option<bool> {
     match read(alloc, file.as_bytes()) {
         Ok(record) => is_steady(alloc, &record.cells, limit),

@@ -1,4 +1,4 @@
-//! Pattern files as they are read and written, whole and in pieces.
+//! Reading and writing pattern files, in one piece and in several.
 ghost use Rattle.std.specs.Prelude.{◌<◌};
 
 use life_core::{Fault, PLANE, Pattern, Rule, generation};
@@ -10,7 +10,7 @@ use life_rle::{
 use std::alloc::{AllocError, Global};
 use std::io;
 
-/// Files, and what is written of them or the name of their fault.
+/// Files, and their canonical text or the name of their fault.
 const FILES: [(&str, &str); 6] = [
     (
         "x = 36, y = 9, rule = B3/S23\n24bo11b$22bobo11b$12b2o6b2o12b2o$11bo3bo4b2o12b2o$2o8bo5bo3b2o14b$2o8bo3bob2o4bobo11b$10bo5bo7bo11b$11bo3bo20b$12b2o!\n",
@@ -43,7 +43,7 @@ fn is_written(alloc: Global, record: &Record, text: &str) -> bool {
     }
 }
 
-/// Whether this is written of the file, or is the name of its fault.
+/// Whether this is the file's canonical text, or the name of its fault.
 fn gives(alloc: Global, file: &[u8], text: &str) -> bool {
     match read(alloc, file) {
         Ok(record) => is_written(alloc, &record, text),
@@ -51,7 +51,7 @@ fn gives(alloc: Global, file: &[u8], text: &str) -> bool {
     }
 }
 
-/// Whether this is written of what the stream gives, or is the name of its fault.
+/// Whether this is the canonical text of the file in the stream, or the name of its fault.
 fn stream_gives(alloc: Global, input: &mut PieceInlet, text: &str) -> bool {
     match read_from(alloc, input) {
         Ok(record) => is_written(alloc, &record, text),
@@ -60,7 +60,7 @@ fn stream_gives(alloc: Global, input: &mut PieceInlet, text: &str) -> bool {
     }
 }
 
-/// Whether this is written of a stream with these bytes, which come in pieces of the size.
+/// The same for a stream with these bytes, in pieces of one size.
 fn gives_in_pieces_of(alloc: Global, file: &[u8], piece: usize, text: &str) -> bool
     requires { 0 < piece }
 {
@@ -70,7 +70,7 @@ fn gives_in_pieces_of(alloc: Global, file: &[u8], piece: usize, text: &str) -> b
     }
 }
 
-/// Whether this is written of a stream with these bytes, which come in pieces of each size.
+/// The same for a stream with these bytes, in pieces of several sizes.
 fn gives_in_pieces(alloc: Global, file: &str, text: &str) -> bool {
     for piece in [1, 2, 7, 4_096] {
         if !gives_in_pieces_of(alloc, file.as_bytes(), piece, text) {
@@ -88,7 +88,7 @@ fn files_are_written_back(rt: HostRuntime) {
     }
 }
 
-/// The file with this many blanks at its end.
+/// The file with this many spaces at its end.
 fn with_blanks(alloc: Global, front: &str, blanks: usize) -> Result<Vec<u8>, AllocError> {
     let mut file = front.as_bytes().to_vec(alloc)?;
     for _ in 0..blanks {
@@ -97,8 +97,8 @@ fn with_blanks(alloc: Global, front: &str, blanks: usize) -> Result<Vec<u8>, All
     Ok(file)
 }
 
-/// Files that end in this many blanks, and what is written of them or the name of their fault: the length is judged
-/// before the header.
+/// Files that end in this many spaces, and their canonical text or the name of their fault. The limit is 1,048,576
+/// bytes, and the length is checked before the header.
 const LONG_FILES: [(&str, usize, &str); 3] = [
     (
         "x = 1, y = 1\no!",
@@ -109,7 +109,8 @@ const LONG_FILES: [(&str, usize, &str); 3] = [
     ("x = 1\n", 1_048_571, "too-long"),
 ];
 
-/// Whether this is written of the file, or is the name of its fault, as bytes and as a stream, whole and in pieces of 4,096 bytes.
+/// Whether this is the file's canonical text, or the name of its fault: as bytes, and as a stream in one piece and in
+/// pieces of 4,096 bytes.
 fn gives_all_ways(alloc: Global, file: &[u8], text: &str) -> bool {
     gives(alloc, file, text)
         && gives_in_pieces_of(alloc, file, usize::MAX, text)
@@ -126,7 +127,7 @@ fn files_have_a_limit(rt: HostRuntime) {
     }
 }
 
-/// Whether a stream with these bytes is too long, and the same bytes as a kept text are not.
+/// Whether these bytes are too long as a stream, and accepted as a stored text.
 fn is_long_stream(alloc: Global, file: &[u8]) -> bool {
     match read_from(alloc, &mut SliceInlet::new(file)) {
         Err(ReadFault::Rle(RleFault::TooLong)) => read_kept(alloc, file).is_ok(),
@@ -134,7 +135,7 @@ fn is_long_stream(alloc: Global, file: &[u8]) -> bool {
     }
 }
 
-/// Whether a stream is too long that begins with a bad header and ends in this many blanks.
+/// Whether a stream with a bad header and this many spaces at its end is refused as too long.
 fn is_long_with_a_bad_header(alloc: Global, blanks: usize) -> bool {
     match with_blanks(alloc, "x = 1\n", blanks) {
         Ok(file) => {
@@ -163,7 +164,7 @@ const TWO_CELLS: &[u8] = b"x = 2, y = 1\n2o!\n";
 
 const TEXT: &[u8] = b"2o!\n";
 
-/// Whether a file with two cells is read from the stream.
+/// Whether reading the stream gives a pattern with two cells.
 fn gives_two_cells<I: Inlet>(alloc: Global, input: &mut I) -> bool {
     match read_from(alloc, input) {
         Ok(record) => record.cells.population() == 2,
@@ -191,7 +192,7 @@ fn a_writer_takes_what_is_put(rt: HostRuntime) {
     assert!(rt; put_all(&mut writer, TEXT).is_ok());
 }
 
-/// Whether this is written of the record that is made of the pattern.
+/// Whether this is the text of the record that `plain` makes from the pattern.
 fn plain_is_written(alloc: Global, pattern: &Pattern, text: &str) -> bool {
     if !pattern.within(500_000_000) {
         return false;
@@ -202,7 +203,7 @@ fn plain_is_written(alloc: Global, pattern: &Pattern, text: &str) -> bool {
     }
 }
 
-/// Whether repeated cells count once, and the cells are moved to the corner.
+/// Whether a repeated cell counts once, and the cells are translated to the corner.
 fn cells_are_normal(alloc: Global) -> Result<bool, Fault> {
     let pattern = Pattern::from_cells(alloc, &[(7, -2), (5, -2), (7, -2)])?;
     Ok(plain_is_written(alloc, &pattern, "x = 3, y = 1, rule = B3/S23\nobo!\n"))
@@ -222,7 +223,7 @@ fn row_file(alloc: Global, width: u64) -> Result<String, AllocError> {
     format!(in alloc; "x = {width}, y = 1\n{width}o!\n")
 }
 
-/// The text of the next generation: three rows of two cells fewer, and none of a row of one or two.
+/// The text of the next generation: three rows with two cells fewer. A row of one or two cells dies.
 fn rows_text(alloc: Global, width: u64) -> Result<String, AllocError> {
     match width.saturating_sub(2) {
         0 => String::from_str(alloc, "x = 0, y = 0, rule = B3/S23\n!\n"),
@@ -231,7 +232,7 @@ fn rows_text(alloc: Global, width: u64) -> Result<String, AllocError> {
     }
 }
 
-/// Whether this is written of the next generation of the cells.
+/// Whether this is the text of the next generation of the cells.
 fn next_is_written(alloc: Global, cells: &Pattern, text: &str) -> Result<bool, Fault> {
     if !cells.within(PLANE - 1) {
         return Ok(false);

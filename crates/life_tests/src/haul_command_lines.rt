@@ -100,7 +100,7 @@ fn symmetries_are_read_by_their_names(rt: HostRuntime) {
     assert_eq!(rt; Symmetry::named(""), None);
 }
 
-/// Whether the arguments name the job, or are a usage error if there is none.
+/// Whether the arguments name the job, or are a usage error if it is `None`.
 fn name(alloc: Global, words: &[&str], job: Option<HaulJob<'_>>) -> bool {
     is_named(read_haul_words(alloc, words), job)
 }

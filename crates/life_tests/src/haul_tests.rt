@@ -1,5 +1,5 @@
-//! Hauls and soups that are written into memory. The expected tables of hauls, and soups of symmetries other than C1, come from a separate
-//! program that uses Python's SHA-256; the soup of C1 comes from `sha256sum` and `basenc`.
+//! Hauls and soups, written into memory. The expected tables of hauls, and the soups of symmetries other than C1, come
+//! from a separate program that uses Python's SHA-256. The soup of C1 comes from `sha256sum` and `basenc`.
 use life_hauls::{
     HaulJob, HaulWatch, HaulWords, SoupWords, Symmetry, Unwatched, laws_of_hauls, laws_of_soups,
     run_haul, run_soup,
@@ -8,7 +8,7 @@ use life_jobs::Stop;
 use life_rle::{MemoryOutlet, Outlet, PieceOutlet};
 use std::alloc::Global;
 
-/// Three soups under Conway's Life, 500 generations on.
+/// Three soups under Conway's Life, counted at generation 500.
 const THREE: HaulWords<'static> = HaulWords {
     root: "tst",
     first: 0,
@@ -39,7 +39,7 @@ clusters,27,
 soups,3,0
 ";
 
-/// The same soups in rows of 32 cells.
+/// The table for the same soups with symmetry 8x32: 8 rows of 32 cells.
 const WIDE: &str = "\
 # root tst
 # rule B3/S23
@@ -62,7 +62,7 @@ clusters,53,
 soups,3,0
 ";
 
-/// The same soups with their mirror images.
+/// The table for the same soups with symmetry D2_+2: each with its mirror image.
 const MIRRORED: &str = "\
 # root tst
 # rule B3/S23
@@ -168,7 +168,8 @@ const SOUPS: [(Symmetry, &str); 7] = [
     (Symmetry::D2Plus2, EVEN),
 ];
 
-/// Numbers of hauls that are out of their limits: the first soup, how many, their generation, and the limit of periods.
+/// Numbers of hauls, one of them out of range: the first soup, how many soups, the generation, and the limit on the
+/// period.
 const OUT_OF_LIMIT: [(u64, u64, u64, u64); 5] = [
     (0, 0, 500, 4),
     (0, 1_000_001, 500, 4),
@@ -184,7 +185,7 @@ const BAD_TEXTS: [(&str, &str, Stop); 3] = [
     ("tst", "B0/S", Stop::BadRule),
 ];
 
-/// Does the job, and puts what it prints.
+/// Runs the job, with its output in the stream.
 fn done<O: Outlet>(alloc: Global, job: HaulJob<'_>, output: &mut O) -> Result<(), Stop> {
     match job {
         HaulJob::Haul(words) => run_haul(alloc, words, output, &mut Unwatched),
@@ -258,7 +259,7 @@ fn a_failed_put_is_told(rt: HostRuntime) {
     }
 }
 
-/// The calls of a watch: how often, and the last one.
+/// Records the calls of a watch: how many, and the last one.
 #[derive(Drop)]
 struct Told {
     times: u64,

@@ -1,4 +1,4 @@
-//! Jobs over streams in memory: whole, byte by byte, and with a take or a put that fails.
+//! The jobs of `life` without an archive, over streams in memory that may fail, and the lines of stops.
 use crate::job_streams::{End, Run, other_run};
 use life_code::CodeFault;
 use life_jobs::{Stop, run_census, run_generation, run_kind, run_object};
@@ -18,7 +18,7 @@ const GLIDER: &str = "#N Glider\nx = 3, y = 3\nbo$2bo$3o!\n";
 
 const NEXT_GLIDER: &str = "x = 3, y = 3, rule = B3/S23\nobo$b2o$bo!\n";
 
-/// Three cells that are a block in the next generation.
+/// Three cells that become a block in the next generation.
 const BEFORE_A_BLOCK: &str = "x = 2, y = 2\n2o$o!\n";
 
 const GENERATION: Job = Job::Generation(1);
@@ -43,7 +43,7 @@ const NOT_CANONICAL: Stop = Stop::BadCode(CodeFault::NotCanonical);
 
 const OUT_OF_LIMIT: End = End::Stopped(Stop::OutOfLimit);
 
-/// Jobs that are done, and whose streams fail.
+/// Jobs that succeed, and jobs whose streams fail.
 const FLOWS: [Run<Job>; 12] = [
     (GENERATION, GLIDER, End::Done(NEXT_GLIDER)),
     (GENERATION, GLIDER, End::Unreadable(1)),
@@ -88,7 +88,7 @@ const LIMITS: [Run<Job>; 13] = [
     (Job::Census(0, 2049), BEFORE_A_BLOCK, OUT_OF_LIMIT),
 ];
 
-/// Does a job over these streams.
+/// Runs a job over these streams.
 fn done(
     alloc: Global,
     job: Job,
@@ -113,7 +113,7 @@ fn jobs_are_refused(rt: HostRuntime) {
     assert_eq!(rt; other_run(rt.alloc(), &LIMITS, done), None);
 }
 
-/// Stops, and the lines that are printed for them.
+/// Stops, and their lines on standard error.
 const LINES: [(Stop, &str); 7] = [
     (Stop::OutOfLimit, "refused: out-of-limit"),
     (NO_END, "refused: bad-pattern no-end"),

@@ -1,4 +1,4 @@
-//! Jobs over streams in memory: whole, byte by byte, and with a take or a put that fails.
+//! Running jobs over streams in memory: in one piece, byte by byte, and with a read or a write that fails.
 ghost use Rattle.std.specs.Prelude.{◌<◌};
 
 use life_jobs::Stop;
@@ -8,18 +8,18 @@ use std::alloc::{AllocError, Global};
 /// How a stream moves its bytes.
 #[derive(Clone, Copy, Debug)]
 pub enum Flow {
-    /// Whole.
+    /// All bytes in one piece.
     Whole,
     /// Byte by byte.
     Bytewise,
-    /// Byte by byte, and the take of this number fails.
+    /// Byte by byte, and the read with this number fails.
     Unreadable(u64),
-    /// Byte by byte, and the put after what is put fails.
+    /// Byte by byte, and the write after the expected output fails.
     Unwritable,
 }
 
 impl Flow {
-    /// The most bytes of a take and a put.
+    /// The most bytes of a read or a write.
     fn piece(self) -> usize
         ensures { 0 < result }
     {
@@ -29,7 +29,7 @@ impl Flow {
         }
     }
 
-    /// A stream from which these bytes come.
+    /// An input with these bytes.
     pub fn inlet(self, alloc: Global, bytes: &[u8]) -> Result<PieceInlet, AllocError> {
         let fails = match self {
             Flow::Unreadable(take) => Some(take),
@@ -38,7 +38,7 @@ impl Flow {
         Ok(PieceInlet::new(bytes.to_vec(alloc)?, self.piece(), fails))
     }
 
-    /// A stream to which these bytes are put.
+    /// An output for these bytes. An unwritable one fails after them.
     pub fn outlet(self, alloc: Global, bytes: &[u8]) -> PieceOutlet {
         let fails = match self {
             Flow::Unwritable => Some((bytes.len() as u64).saturating_add(1)),
@@ -51,13 +51,13 @@ impl Flow {
 /// How a job over a file ends.
 #[derive(Clone, Copy, Debug)]
 pub enum End {
-    /// It puts this, if the file comes whole and if it comes byte by byte.
+    /// It writes this, both in one piece and byte by byte.
     Done(&'static str),
-    /// It stops and puts nothing, if the file comes whole and if it comes byte by byte.
+    /// It stops and writes nothing, both in one piece and byte by byte.
     Stopped(Stop),
-    /// It stops because the take with this number fails, and puts nothing.
+    /// It stops because the read with this number fails, and writes nothing.
     Unreadable(u64),
-    /// It stops because the put after this fails.
+    /// It writes this, and stops because the next write fails.
     Unwritable(&'static str),
 }
 
@@ -71,7 +71,7 @@ impl End {
         }
     }
 
-    /// What is put.
+    /// The expected output.
     fn put(self) -> &'static str {
         match self {
             End::Done(put) | End::Unwritable(put) => put,
@@ -80,10 +80,10 @@ impl End {
     }
 }
 
-/// A job, the file that comes, and how the job ends.
+/// A job, the file on its input, and how the job ends.
 pub type Run<J> = (J, &'static str, End);
 
-/// Whether a job on such streams ends this way. If a number is out of its range, no byte may be taken.
+/// Whether a job on such streams ends this way. If a number is out of range, the job may not read any input.
 fn ends_by<J: Copy, F: Fn(Global, J, &mut PieceInlet, &mut PieceOutlet) -> Result<(), Stop>>(
     alloc: Global,
     run: &F,
@@ -102,7 +102,7 @@ fn ends_by<J: Copy, F: Fn(Global, J, &mut PieceInlet, &mut PieceOutlet) -> Resul
     answer == end.answer() && output.bytes() == end.put().as_bytes() && is_untouched
 }
 
-/// Whether a job ends this way.
+/// Whether a job ends this way, on the streams that this end needs.
 fn ends<J: Copy, F: Fn(Global, J, &mut PieceInlet, &mut PieceOutlet) -> Result<(), Stop>>(
     alloc: Global,
     run: &F,
@@ -119,7 +119,7 @@ fn ends<J: Copy, F: Fn(Global, J, &mut PieceInlet, &mut PieceOutlet) -> Result<(
     }
 }
 
-/// The first of these jobs that ends differently.
+/// The index of the first job that doesn't end as expected.
 pub fn other_run<J: Copy, F: Fn(Global, J, &mut PieceInlet, &mut PieceOutlet) -> Result<(), Stop>>(
     alloc: Global,
     rows: &[Run<J>],

@@ -1,4 +1,4 @@
-//! Kinds and codes on both kinds of plane, and objects that are one or two.
+//! Kinds on both types of plane, codes, and whether two patterns are the same object.
 ghost use Rattle.std.specs.Prelude.{◌≤◌};
 
 use life_code::{CodeFault, Coded, Kind, PERIOD_LIMIT, code, kind_by, laws_of_codes, same_object};
@@ -9,7 +9,7 @@ const GLIDER: [(i64, i64); 5] = [(1, 0), (2, 1), (0, 2), (1, 2), (2, 2)];
 
 const BLOCK: [(i64, i64); 4] = [(0, 0), (1, 0), (0, 1), (1, 1)];
 
-/// Whether the pattern is of this kind under Life and the limit, on planes of the kind `P`.
+/// Whether the pattern is of this kind under Life and the limit, on planes of the type `P`.
 fn is_kind<P: Plane<Global>>(
     alloc: Global,
     pattern: &Pattern,
@@ -25,7 +25,7 @@ fn is_kind<P: Plane<Global>>(
     Ok(kind_by::<_, P>(alloc, &Rule::LIFE, pattern, limit)? == expected)
 }
 
-/// Whether a glider is a ship of period 4 and of no smaller one, on planes of the kind `P`.
+/// Whether a glider is a spaceship of period 4, and unresolved under limit 3, on planes of the type `P`.
 fn glider_is_ship<P: Plane<Global>>(alloc: Global) -> Result<bool, Fault> {
     let glider = Pattern::from_cells(alloc, &GLIDER)?;
     Ok(
@@ -53,7 +53,7 @@ fn faults_have_numbers_and_names(rt: HostRuntime) {
     }
 }
 
-/// The pattern with its code, if it has one and lies near enough.
+/// The pattern with its code, if it has one. `None` if it is too far from the origin.
 fn coded(alloc: Global, rule: &Rule, pattern: &Pattern, limit: u32) -> Result<Option<Coded>, Fault>
     requires from_one { 1 ≤ limit }
     requires few { limit ≤ PERIOD_LIMIT }
@@ -64,7 +64,7 @@ fn coded(alloc: Global, rule: &Rule, pattern: &Pattern, limit: u32) -> Result<Op
     code(alloc, rule, pattern, limit)
 }
 
-/// Whether both have this code and whether they are one object, if both have a code.
+/// Whether both have this code, and whether they are the same object. `None` if either has no code.
 fn compared(first: &Option<Coded>, second: &Option<Coded>, text: &[u8]) -> Option<(bool, bool)> {
     match (first, second) {
         (Some(first), Some(second)) => Some((
@@ -80,7 +80,7 @@ fn coded_glider(alloc: Global) -> Result<Option<Coded>, Fault> {
     coded(alloc, &Rule::LIFE, &glider, 4)
 }
 
-/// The glider three generations later, its left and its right exchanged, with its code under another limit.
+/// The glider three generations later, mirrored, with its code under another limit.
 fn coded_other(alloc: Global) -> Result<Option<Coded>, Fault> {
     let glider = Pattern::from_cells(alloc, &GLIDER)?;
     if !glider.within(400_000_000) {
@@ -102,7 +102,7 @@ fn one_object_at_another_phase_and_limit(rt: HostRuntime) {
     assert!(rt; compared_gliders(rt.alloc()) == Ok(Some((true, true))));
 }
 
-/// The block with its code under a rule.
+/// The block, with its code under the rule.
 fn coded_block(alloc: Global, rule: &Rule) -> Result<Option<Coded>, Fault> {
     let block = Pattern::from_cells(alloc, &BLOCK)?;
     coded(alloc, rule, &block, 1)

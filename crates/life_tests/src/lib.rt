@@ -1,5 +1,5 @@
-//! Tests over patterns, jobs, pictures and hauls; and what these share with `archive_tests`: an allocator that fails, calls whose
-//! allocations fail in turn, jobs on streams that fail at a call, and command lines.
+//! Tests of patterns, jobs, pictures and hauls. The public modules are helpers that `archive_tests` shares: an
+//! allocator that fails, calls whose allocations fail in turn, jobs on streams that fail at a call, and command lines.
 #![tactic(auto)]
 
 pub mod allocations;

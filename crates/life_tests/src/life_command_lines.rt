@@ -1,4 +1,4 @@
-//! Command lines, and the jobs that their arguments name.
+//! Command lines of `life`, and the jobs that their arguments name.
 use crate::arguments::{is_named, other_line};
 use life_words::{Job, explanation, read_words, refusal_names};
 use std::alloc::Global;
@@ -67,7 +67,7 @@ const LINES: [(&str, Option<Job<'static>>); 23] = [
     ("life explain no-end", Some(Job::Explain("no-end"))),
 ];
 
-/// Whether the arguments name the job, or are a usage error if there is none.
+/// Whether the arguments name the job, or are a usage error if it is `None`.
 fn name(alloc: Global, words: &[&str], job: Option<Job<'_>>) -> bool {
     is_named(read_words(alloc, words), job)
 }

@@ -1,4 +1,4 @@
-//! Patterns and their generations on both kinds of plane.
+//! Patterns and their generations on both types of plane.
 use life_core::{
     Bounds, Cell, CellList, Fault, GENERATION_LIMIT, Orientation, PLANE, PackedRows, Pattern,
     Plane, Rule, generation, generation_by, is_packed, laws_of_constants, laws_of_generations,
@@ -8,7 +8,7 @@ use std::alloc::Global;
 
 const GLIDER: [(i64, i64); 5] = [(1, 0), (2, 1), (0, 2), (1, 2), (2, 2)];
 
-/// Whether generation `n` of the first pattern under Life is the second, on planes of the kind `P`.
+/// Whether generation `n` of the first pattern under Life is the second, on planes of the type `P`.
 fn goes_on_by<P: Plane<Global>>(
     alloc: Global,
     before: &Pattern,
@@ -21,7 +21,7 @@ fn goes_on_by<P: Plane<Global>>(
     Ok(generation_by::<_, P>(alloc, &Rule::LIFE, before, n)?.same(after))
 }
 
-/// Whether generation `n` of the first pattern under Life is the second, on both kinds of plane.
+/// Whether generation `n` of the first pattern under Life is the second, on both types of plane.
 fn goes_on(alloc: Global, before: &Pattern, n: u32, after: &Pattern) -> Result<bool, Fault> {
     Ok(
         goes_on_by::<CellList>(alloc, before, n, after)?
@@ -36,14 +36,14 @@ fn glider_goes_on(alloc: Global) -> Result<bool, Fault> {
     goes_on(alloc, &glider, 4, &later)
 }
 
-/// Whether a blinker turns whose row lies across the edge of a word left of column 0.
+/// Whether a blinker evolves correctly if its row crosses the edge of a word left of column 0.
 fn left_blinker_goes_on(alloc: Global) -> Result<bool, Fault> {
     let blinker = Pattern::from_cells(alloc, &[(-65, -1), (-64, -1), (-63, -1)])?;
     let later = Pattern::from_cells(alloc, &[(-64, -2), (-64, -1), (-64, 0)])?;
     goes_on(alloc, &blinker, 1, &later)
 }
 
-/// Whether a blinker turns whose row lies across the edge of a word right of column 0.
+/// Whether a blinker evolves correctly if its row crosses the edge of a word right of column 0.
 fn right_blinker_goes_on(alloc: Global) -> Result<bool, Fault> {
     let blinker = Pattern::from_cells(alloc, &[(63, 0), (64, 0), (65, 0)])?;
     let later = Pattern::from_cells(alloc, &[(64, -1), (64, 0), (64, 1)])?;
@@ -70,7 +70,7 @@ fn steps<P: Plane<Global>>(alloc: Global, plane: &mut P, n: u16) -> Result<(), F
     Ok(())
 }
 
-/// Generation `n` of the pattern on a plane that has given up what room it does not need.
+/// Generation `n` of the pattern on a plane that has given up its unneeded room.
 fn trimmed<P: Plane<Global>>(alloc: Global, before: &Pattern, n: u16) -> Result<P, Fault> {
     let mut plane = P::from_pattern(alloc, before)?;
     steps(alloc, &mut plane, n)?;
@@ -89,7 +89,7 @@ fn has_generation<P: Plane<Global>>(
     goes_on_by::<P>(alloc, before, n, &here)
 }
 
-/// Whether a plane whose room is given up after `n` generations evolves as one that keeps it.
+/// Whether a plane that gives up unneeded room after `n` generations evolves like one that keeps it.
 fn trims_by<P: Plane<Global>>(alloc: Global, before: &Pattern, n: u16) -> Result<bool, Fault> {
     let mut plane = trimmed::<P>(alloc, before, n)?;
     if !has_generation(alloc, &plane, before, u32::from(n))? {
@@ -115,7 +115,7 @@ fn glider_trims(alloc: Global) -> Result<bool, Fault> {
     Ok(true)
 }
 
-/// Whether planes without a cell evolve correctly after giving up room.
+/// Whether empty planes evolve correctly after giving up room.
 fn empty_trims(alloc: Global) -> Result<bool, Fault> {
     let empty = Pattern::from_cells(alloc, &[])?;
     trims(alloc, &empty, 2)
@@ -127,7 +127,7 @@ fn a_trimmed_plane_goes_on(rt: HostRuntime) {
     assert!(rt; empty_trims(rt.alloc()) == Ok(true));
 }
 
-/// Two blocks, too far from one another for packed rows.
+/// Two blocks, too far apart for packed rows.
 const FAR_BLOCKS: [(i64, i64); 8] = [
     (0, 0),
     (1, 0),
@@ -181,8 +181,7 @@ fn a_row_steps_across_groups_of_words(rt: HostRuntime) {
     assert!(rt; out == [0, 0, 0, 1 << 63, 1, 0, 0, 1 << 63, 1]);
 }
 
-/// Whether a place with six live neighbours, at the edge of a group of words, is live next under the
-/// rule of a text.
+/// Whether a dead cell with six live neighbours, at the edge of a group of words, is born under the rule.
 fn six_live(text: &str) -> bool {
     let side = [0, 0, 0, 1 << 63, 3];
     let mut out = [0; 5];
@@ -213,7 +212,7 @@ fn shift_by<P: Plane<Global>>(
     Ok(from.shift_to(&to))
 }
 
-/// Whether this is the move from the first pattern to the second, on both kinds of plane.
+/// Whether this is the translation from the first pattern to the second, on both types of plane.
 fn is_move(
     alloc: Global,
     from: &Pattern,
@@ -225,28 +224,28 @@ fn is_move(
     Ok(listed == shift && packed == shift)
 }
 
-/// Whether the move between two pairs of cells that are alike is found.
+/// Whether the translation between two pairs of cells of the same shape is found.
 fn pair_moves(alloc: Global) -> Result<bool, Fault> {
     let pair = Pattern::from_cells(alloc, &[(0, 0), (63, 0)])?;
     let later = Pattern::from_cells(alloc, &[(1, 5), (64, 5)])?;
     is_move(alloc, &pair, &later, Some((1, 5)))
 }
 
-/// Whether no move is found between sets of another size, either way.
+/// Whether patterns of different sizes have no translation, either way.
 fn sizes_differ(alloc: Global) -> Result<bool, Fault> {
     let one = Pattern::from_cells(alloc, &[(0, 0)])?;
     let two = Pattern::from_cells(alloc, &[(0, 0), (1, 0)])?;
     Ok(is_move(alloc, &one, &two, None)? && is_move(alloc, &two, &one, None)?)
 }
 
-/// Whether no move is found between sets of another shape.
+/// Whether patterns of different shapes have no translation.
 fn shapes_differ(alloc: Global) -> Result<bool, Fault> {
     let pair = Pattern::from_cells(alloc, &[(0, 0), (63, 0)])?;
     let two = Pattern::from_cells(alloc, &[(0, 0), (1, 0)])?;
     is_move(alloc, &pair, &two, None)
 }
 
-/// Whether no move is found from the empty set to itself.
+/// Whether the empty pattern has no translation to itself.
 fn empty_has_no_move(alloc: Global) -> Result<bool, Fault> {
     let empty = Pattern::from_cells(alloc, &[])?;
     is_move(alloc, &empty, &empty, None)
@@ -281,7 +280,8 @@ fn is_copied(alloc: Global, pattern: &Pattern) -> Result<bool, Fault> {
     Ok(pattern.copy(alloc)?.same(pattern))
 }
 
-/// Whether these are the cells of the pattern moved to the corner, in their order, and not those of the pattern.
+/// Whether these are the cells of the pattern translated to the corner, in their order, and differ from the pattern's
+/// own.
 fn has_normal(alloc: Global, pattern: &Pattern, cells: &[Cell]) -> Result<bool, Fault> {
     if !pattern.within(500_000_000) {
         return Ok(false);
@@ -291,7 +291,7 @@ fn has_normal(alloc: Global, pattern: &Pattern, cells: &[Cell]) -> Result<bool, 
     Ok(listed.as_slice() == cells && !normal.same(pattern))
 }
 
-/// Whether each call of a pattern answers what it should.
+/// Whether each call of a pattern gives the expected result.
 fn calls_are_right(alloc: Global) -> Result<bool, Fault> {
     let pattern = Pattern::from_cells(alloc, &[(3, -1), (2, 5), (3, -1)])?;
     let normal = [Cell { row: 0, column: 1 }, Cell { row: 6, column: 0 }];
@@ -334,7 +334,7 @@ fn has_cells(pattern: &Pattern, cells: &[(i64, i64)]) -> bool {
     pattern.population() == cells.len()
 }
 
-/// Whether the pattern has these cells if it is turned so.
+/// Whether the pattern has these cells in this orientation.
 fn turns_to(
     alloc: Global,
     pattern: &Pattern,
@@ -347,7 +347,7 @@ fn turns_to(
     }
 }
 
-/// The first place in the table where the tromino is turned to other cells.
+/// The index of the first orientation in which the tromino doesn't have the cells of the table.
 fn first_other_turn(alloc: Global) -> Result<Option<usize>, Fault> {
     let tromino = Pattern::from_cells(alloc, &[(1, 2), (1, 3), (2, 3)])?;
     for place in 0..8 {

@@ -6,8 +6,7 @@ use std::cell::Cell;
 
 /// An allocator that refuses one allocation, and passes on every other call.
 ///
-/// A test lends it: a `&Refusing` is an allocator, and is `Copy`. A block that grows or shrinks
-/// counts as an allocation.
+/// Tests pass a `&Refusing`, which is an allocator and `Copy`. Growing or shrinking a block counts as an allocation.
 #[derive(Drop)]
 pub struct Refusing<A: Allocator = Global> {
     inner: A,
@@ -65,7 +64,7 @@ unsafe impl<A: Allocator> Allocator for Refusing<A> {
 mod tests {
     use super::*;
 
-    // For nine numbers the vector grows to four places, to eight and to sixteen.
+    // Nine numbers need three allocations: the vector grows to a capacity of 4, 8 and 16.
     fn below_nine<A: Allocator + Copy>(alloc: A) -> Result<Vec<u64, A>, AllocError> {
         let mut numbers = Vec::new(alloc);
         for number in 0..9 {
@@ -74,7 +73,8 @@ mod tests {
         Ok(numbers)
     }
 
-    // Whether the nine numbers come in memory whose allocation of this number is refused, and whether it was.
+    // Whether the nine numbers fit into memory whose allocation with this number is refused, and whether it was
+    // refused.
     fn answers(alloc: Global, refused: u64) -> (bool, bool)
         requires { 0 < refused }
     {

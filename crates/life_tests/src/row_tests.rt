@@ -1,4 +1,4 @@
-//! Rows and columns of live cells of each length, on both kinds of plane.
+//! Rows and columns of live cells of each length, on both types of plane.
 ghost use Rattle.std.specs.Prelude.{IsTrue};
 ghost use Rattle.std.specs.List.{All};
 ghost use Rattle.life_core.specs.Cell.{IsCellWithin};
@@ -8,7 +8,7 @@ use life_core::{
 };
 use std::alloc::Global;
 
-/// A box of the plane.
+/// A box of cells: its upper left corner, and its size.
 #[derive(Clone, Copy)]
 struct Field {
     left: i64,
@@ -36,7 +36,7 @@ fn are_inside(cells: &[Cell]) -> bool
     cells.iter().all(|cell| cell.is_within(PLANE))
 }
 
-/// The set of the cells; none if one lies outside the plane.
+/// The pattern with these cells; empty if one of them is outside the plane.
 fn pattern_of(mut cells: Vec<Cell>) -> Result<Pattern, Fault> {
     if !are_inside(&cells) {
         cells.clear();
@@ -44,7 +44,7 @@ fn pattern_of(mut cells: Vec<Cell>) -> Result<Pattern, Fault> {
     Pattern::from_list(cells)
 }
 
-/// The set of all cells of the box; none outside the plane.
+/// The pattern with all cells of the box; empty if the box is not in the plane.
 fn filled(alloc: Global, field: Field) -> Result<Pattern, Fault> {
     let mut cells = Vec::new(alloc);
     for row in field.top..field.top.saturating_add(field.height) {
@@ -76,8 +76,8 @@ fn goes_on_both_ways(alloc: Global, before: Field, after: Field) -> Result<bool,
     )
 }
 
-/// Whether each row of up to 300 cells evolves to three rows with two cells fewer, the first of which
-/// lies above it and the last below it.
+/// Whether each row of up to 300 cells evolves to three rows with two cells fewer: one above it, one in its place, and
+/// one below it.
 fn rows_go_on(alloc: Global) -> Result<bool, Fault> {
     for width in 1..301_i64 {
         let row = Field {

@@ -1,8 +1,8 @@
-//! Texts of rules as they are read without a file round them, and the messages of their faults.
+//! Reading rules outside of files, and the messages of their faults.
 use life_core::{Rule, RuleFault, law_of_life, laws_of_rule_texts};
 use std::alloc::Global;
 
-/// Texts, and the canonical text of the rule that each is read as, or the message of its fault.
+/// Texts of rules, and for each the canonical text of the rule, or the message of its fault.
 const RULES: [(&str, &str); 3] = [
     ("\tb 3 3\r S", "B3/S"),
     ("B3/S23\n", "not a rule"),
@@ -25,7 +25,7 @@ fn has_message(alloc: Global, fault: RuleFault, expected: &str) -> bool {
     }
 }
 
-/// Whether the text is read as the rule of this canonical text, or refused with this message.
+/// Whether the text is read as the rule with this canonical text, or refused with this message.
 fn is_read_as(alloc: Global, text: &str, expected: &str) -> bool {
     match Rule::read(text.as_bytes()) {
         Ok(rule) => has_text(alloc, &rule, expected),

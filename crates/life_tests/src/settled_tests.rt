@@ -1,17 +1,17 @@
-//! Fields that settle: their generations are the same as when they are computed one by one.
+//! Fields that settle: the shortcut for their generations gives the same as computing them one by one.
 ghost use Rattle.std.specs.Prelude.{◌≤◌};
 
 use life_code::settled_generation;
 use life_core::{Fault, GENERATION_LIMIT, PLANE, Pattern, Rule, generation};
 use std::alloc::Global;
 
-/// The R-pentomino. It settles after 1,103 generations, with six gliders that leave.
+/// The R-pentomino. It settles at generation 1,103, when six gliders are leaving.
 const R_PENTOMINO: [(i64, i64); 5] = [(1, 0), (2, 0), (0, 1), (1, 1), (1, 2)];
 
-/// Its population from then on, as it is known: eight blocks, six gliders, four beehives, four blinkers, a boat, a loaf and a ship.
+/// Its well-known population from then on: 8 blocks, 6 gliders, 4 beehives, 4 blinkers, a boat, a loaf and a ship.
 const SETTLED_POPULATION: usize = 116;
 
-/// Two gliders that leave side by side, and a blinker between their ways.
+/// Two gliders that leave side by side, and a blinker between their paths.
 const GLIDERS: [(i64, i64); 13] = [
     (21, 0),
     (22, 1),
@@ -28,7 +28,7 @@ const GLIDERS: [(i64, i64); 13] = [
     (11, 10),
 ];
 
-/// Whether generation `n` of the pattern is the one that is made step by step.
+/// Whether `settled_generation` gives the same generation `n` of the pattern as stepping does.
 fn is_generation(alloc: Global, pattern: &Pattern, n: u32) -> Result<bool, Fault>
     requires { n ≤ GENERATION_LIMIT }
 {
@@ -48,7 +48,7 @@ fn population_at(alloc: Global, n: u32) -> Result<usize, Fault> {
     Ok(settled_generation(alloc, &Rule::LIFE, &pentomino, n)?.population())
 }
 
-/// Whether both fields have the generations that they should have.
+/// Whether generation `n` of both fields is right.
 fn are_generations(alloc: Global, n: u32) -> Result<bool, Fault> {
     if n > GENERATION_LIMIT {
         return Ok(false);

@@ -1,4 +1,4 @@
--- The explanations of refusals: the names are stated here; the texts are those of the table in `src/explain.rt`.
+-- The explanations of refusals. The names are listed here; the texts come from the table in `src/explain.rt`.
 use Rattle.std.specs.Prelude.{ℕ, Bool, List, [], ◌∷◌, codes, bytes_eq, find, map, Option, option_map, unwrap_or}
 use Rattle.std.specs.Borrow.{Bor}
 use Rattle.std.specs.List.{list_any}
@@ -44,13 +44,13 @@ refusal_names =
     codes "unknown" ∷
     codes "unreadable" ∷ []
 
--- a refusal or a fault has this name
+-- whether `life explain` knows this name: "full" is known, "Full" is not
 unfoldable pub is_refusal : List ℕ → Bool
 is_refusal name = list_any (λ known. bytes_eq known name) refusal_names
 
 -- ---- texts
 
--- rows of names and their texts
+-- a table: each row has a name and its text
 abbrev pub Rows : Type 0
 Rows = List (List ℕ × List ℕ)
 
@@ -73,6 +73,6 @@ explanations = map (λ row. (row.0.now, row.1.now)) EXPLANATIONS
 unfoldable pub explanation_of : List ℕ → Option (List ℕ)
 explanation_of name = text_in explanations name
 
--- what is written to explain a name: nothing if no refusal has it
+-- the output of `life explain` for this name, which is empty for an unknown one
 abbrev pub explanation_text : List ℕ → List ℕ
 explanation_text name = unwrap_or (explanation_of name) []

@@ -6,12 +6,12 @@ use Rattle.clap.specs.declared.error.kind.ErrorKind.TheVariants.{OutOfMemory}
 use Rattle.life_words.specs.declared.word_fault.WordFault.{WordFault}
 use Rattle.life_words.specs.declared.word_fault.WordFault.TheVariants.{BadWords, Memory}
 
--- the number of a fault
+-- 1 for a usage error or a request for help, 2 for out of memory
 abbrev pub number_of : WordFault → ℕ
 number_of (BadWords error) = 1
 number_of Memory = 2
 
--- the fault that an error of `clap` becomes: it is kept, unless it is out of memory
+-- clap's error becomes `Memory` if it is out of memory; any other error is kept unchanged
 abbrev pub ComesFrom : Error → WordFault → Type 0
 ComesFrom error Memory = kind_of error ≡ OutOfMemory
 ComesFrom error (BadWords None) = ⊥

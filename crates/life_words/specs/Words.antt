@@ -1,6 +1,6 @@
 -- The arguments of `life` and the job that they name.
--- The kit's `clap` defines what a command is, which arguments it takes and what it reads in them; the names of the
--- subcommands and of their arguments are the program's own.
+-- The kit's `clap` defines commands, their arguments, and how they are parsed. The names of the subcommands and of
+-- their arguments are the program's own.
 use Rattle.std.specs.Prelude.{◌≡◌, ℕ, ◌^◌, ◌-◌, Bool, true, if◌then◌else◌, List, [], ◌∷◌, fold, Option, None, Some}
 use Rattle.std.specs.Prelude.{option_map, option_and_then, codes, bytes_eq, false, IfOk, Result, Ok, Err}
 use Rattle.std.specs.Str.Parse.{digits_value, without_leading_plus}
@@ -23,45 +23,45 @@ use Rattle.life_words.specs.declared.word_fault.WordFault.TheVariants.{BadWords,
 
 -- ---- what the programs have in common
 
--- if a command was built, it is this one for `clap`, and has no global argument
+-- a command, if it was built without running out of memory, is this one and has no global argument
 abbrev pub MakesCommand : {E : Type 0} → App → Result Command E → Type 0
 MakesCommand app made =
     IfOk made (λ command. app_of command ≡ app) × IfOk made (λ command. (fields_of command).has_globals ≡ false)
 
--- what `clap` finds in arguments: the rows of the command's own arguments, and the given subcommand with its rows
+-- clap's matches: the rows of the command's arguments, and the given subcommand with its own rows
 abbrev pub Matches : Type 0
 Matches = List Row × Option (Text × List Row)
 
--- the same, from the value that holds it
+-- the matches in the value that `clap` returns
 abbrev pub matches_by : ArgMatches → Matches
 matches_by m = (rows_of (found_of m), subcommand_rows_of m)
 
--- nothing, if the arguments have a fault of one of these kinds
+-- the matches if there is no fault, otherwise `None`
 abbrev pub unless_fault : Kinds → Matches → Option Matches
 unless_fault [] found = Some found
 unless_fault (first ∷ others) found = None
 
--- what is found in arguments, the program's name first, unless they have a fault
+-- the matches of a command line that begins with the program's name; `None` for a usage error or a request for help
 unfoldable pub matches_in : App → List Text → Option Matches
 matches_in app words = unless_fault (fault_of app words) (matches_of app words, subcommand_of app words)
 
--- a function of two arguments, if both are given
+-- applies a function to two values, if both are given
 abbrev pub if_both : {A B C : Type 0} → (A → B → C) → Option A → Option B → Option C
 if_both asks (Some a) (Some b) = Some (asks a b)
 if_both asks a b = None
 
--- a function of three arguments, if all are given
+-- applies a function to three values, if all are given
 abbrev pub if_all : {A B C D : Type 0} → (A → B → C → D) → Option A → Option B → Option C → Option D
 if_all asks (Some a) (Some b) (Some c) = Some (asks a b c)
 if_all asks a b c = None
 
--- what the given subcommand asks for, from its name and its rows
+-- applies a function to the name and the rows of the subcommand, if one was given
 abbrev pub by_subcommand : {A : Type 0} → (Text → List Row → Option A) → Option (Text × List Row) → Option A
 by_subcommand named None = None
 by_subcommand named (Some met) = named met.0 met.1
 
--- the answer to arguments: what they ask for, or a usage error if they ask for nothing; out of memory may come with any
--- arguments
+-- what a program may answer to its arguments: the job that they ask for, a usage error if they ask for none, or out of
+-- memory in any case
 abbrev pub Answers : {J A : Type 0} → (J → A) → Option A → Result J WordFault → Type 0
 Answers asked_by asked (Ok job) = asked ≡ Some (asked_by job)
 Answers asked_by asked (Err (BadWords error)) = asked ≡ None
@@ -69,7 +69,7 @@ Answers asked_by asked (Err Memory) = Unit {0}
 
 -- ---- the command
 
--- the greatest number that an argument can be
+-- the largest `u64`
 abbrev pub last_number : ℕ
 last_number = 2 ^ 64 - 1
 
@@ -85,12 +85,12 @@ text_rule id = record (new_rule id) { required = true }
 abbrev pub file_rule : Rule
 file_rule = record (text_rule (codes "F")) { long = Some (codes "db") }
 
--- a required option that is a number from 1 to this one
+-- a required option whose value is a number from 1 to `most`
 abbrev pub number_rule_in : Text → Text → ℕ → Rule
 number_rule_in id long most =
     record (new_rule id) { long = Some long; parser = Some (vp.Unsigned 1 most); required = true }
 
--- the option `--quick`, which takes no value: `clap` gives it the value `true` if it is there, and else `false`
+-- the option `--quick`, which has no value: `clap` stores `true` if it is given, otherwise `false`
 abbrev pub quick_rule : Rule
 quick_rule = record (new_rule (codes "quick")) { long = Some (codes "quick"); action = Some SetTrue }
 
@@ -140,17 +140,17 @@ subcommands = generation ∷ kind ∷ object ∷ census ∷ deposit ∷ serve �
 abbrev pub with_version : App → App
 with_version command = on_top (λ top. record top { has_version = true }) command
 
--- the program's name, which requires a subcommand
-abbrev pub life_alone : App
-life_alone = on_top (λ top. record top { subcommand_required = true }) (with_version (new_app (codes "life")))
+-- `life` without its subcommands, one of which is required
+abbrev pub bare_life : App
+bare_life = on_top (λ top. record top { subcommand_required = true }) (with_version (new_app (codes "life")))
 
--- the whole command
+-- the complete command of `life`
 abbrev pub life_app : App
-life_app = fold (λ command below. with_subcommand command below.top) life_alone subcommands
+life_app = fold (λ command below. with_subcommand command below.top) bare_life subcommands
 
 -- ---- the job
 
--- a job with the texts of its arguments
+-- a job in the specification: `Job` with texts in place of borrowed strings
 pub data Asked : Type 0 where
   AsksGeneration : (n : ℕ) → Asked
   AsksKind : (limit : ℕ) → Asked
@@ -161,7 +161,7 @@ pub data Asked : Type 0 where
   AsksCheck : (file : Text) (quick : Bool) → Asked
   AsksExplain : (name : Text) → Asked
 
--- what a job asks for
+-- the specification's value of a `Job`
 abbrev pub asked_by : Job → Asked
 asked_by (Generation n) = AsksGeneration n
 asked_by (Kind limit) = AsksKind limit
@@ -177,15 +177,15 @@ abbrev pub number_text : Text → Option ℕ
 number_text text =
     if is_unsigned_in 0 last_number text then Some (digits_value 10 (without_leading_plus text)) else None
 
--- the number of the argument with this id, if a subcommand has these matches
+-- the number given for the argument `id` in a subcommand's rows
 abbrev pub number_at : Text → List Row → Option ℕ
 number_at id rows = option_and_then number_text (one_of id rows)
 
--- the text of the argument with this id
+-- the text given for the argument `id`
 abbrev pub text_at : Text → List Row → Option Text
 text_at id rows = first_of id rows
 
--- whether an option without a value is there
+-- whether `clap` stored `true` for an option that has no value
 abbrev pub is_true_text : Option Text → Bool
 is_true_text (Some text) = bytes_eq text (codes "true")
 is_true_text None = false
@@ -193,12 +193,12 @@ is_true_text None = false
 abbrev pub is_given : Text → List Row → Bool
 is_given id rows = is_true_text (text_at id rows)
 
--- the job that explains this name, if it is given and a refusal has it
+-- the job that explains this name, if `life explain` knows it
 abbrev pub explain_of : Option Text → Option Asked
 explain_of (Some name) = if is_refusal name then Some (AsksExplain name) else None
 explain_of None = None
 
--- the job of the subcommand of this name with these matches
+-- the job of a subcommand, from its name and its rows
 abbrev pub job_named : Text → List Row → Option Asked
 job_named name rows =
     if bytes_eq name (codes "generation") then option_map AsksGeneration (number_at (codes "N") rows)
@@ -216,6 +216,6 @@ job_named name rows =
     else if bytes_eq name (codes "explain") then explain_of (text_at (codes "NAME") rows)
     else None
 
--- the job that the arguments name, the program's name first
+-- the job of a command line, if it is valid: `life`, `generation`, `1` gives `AsksGeneration 1`
 unfoldable pub words_job : List Text → Option Asked
 words_job words = option_and_then (λ found. by_subcommand job_named found.1) (matches_in life_app words)

@@ -1,4 +1,4 @@
-//! What the commands of all programs share: how they are built, and reading the arguments of the process.
+//! Helpers that all programs use to build their commands and to read the process's arguments.
 ghost use Rattle.std.specs.Prelude.{◌≡◌, codes, map, IfOk, true, false};
 ghost use Rattle.clap.specs.Simple.{App};
 ghost use Rattle.clap.specs.Words.{Rule, new_app, app_of, rule_of, with_rule, with_subcommand, is_simple, is_simple_and_free};
@@ -36,7 +36,7 @@ pub fn program_command<'a>(
     named_command(alloc, name, about, help).version(VERSION)
 }
 
-/// A required argument that is a text, with its help.
+/// A required positional argument that accepts any text. With `.long(..)` it becomes a required option.
 pub fn text_arg<'a>(alloc: Global, id: &'a str, help: &'a str) -> Arg<'a>
     ensures rule { rule_of result ≡ text_rule id.entry.now }
     ensures local { result.global ≡ false }
@@ -44,7 +44,7 @@ pub fn text_arg<'a>(alloc: Global, id: &'a str, help: &'a str) -> Arg<'a>
     Arg::new(alloc, id).required(true).help(help)
 }
 
-/// A required argument that is a number, with its help.
+/// A required positional argument from 0 to 2^64 - 1. For any other text `clap` reports a usage error.
 pub fn number_arg<'a>(alloc: Global, id: &'a str, help: &'a str) -> Arg<'a>
     ensures rule { rule_of result ≡ number_rule id.entry.now }
     ensures local { result.global ≡ false }
@@ -52,7 +52,7 @@ pub fn number_arg<'a>(alloc: Global, id: &'a str, help: &'a str) -> Arg<'a>
     text_arg(alloc, id, help).value_parser(clap::value_parser!(u64))
 }
 
-/// The argument that is the number of a generation.
+/// The argument `N`. `clap` also accepts numbers over 2048: the job refuses them as `out-of-limit`.
 pub fn generation_arg<'a>(alloc: Global) -> Arg<'a>
     ensures rule { rule_of result ≡ number_rule (codes "N") }
     ensures local { result.global ≡ false }
@@ -60,7 +60,7 @@ pub fn generation_arg<'a>(alloc: Global) -> Arg<'a>
     number_arg(alloc, "N", "The number of the generation, from 0 to 2048")
 }
 
-/// The argument that is a limit on the period.
+/// The argument `LIMIT`. As for `N`, the job checks the range.
 pub fn limit_arg<'a>(alloc: Global) -> Arg<'a>
     ensures rule { rule_of result ≡ number_rule (codes "LIMIT") }
     ensures local { result.global ≡ false }
@@ -72,7 +72,7 @@ pub fn limit_arg<'a>(alloc: Global) -> Arg<'a>
     )
 }
 
-/// The command with one more argument, if the command was built.
+/// Adds an argument. An earlier allocation failure is passed on, so calls can be chained without `?`.
 pub fn with_arg<'a>(
     above: Result<Command<'a>, AllocError>,
     arg: Arg<'a>,
@@ -84,7 +84,7 @@ pub fn with_arg<'a>(
     above?.arg(arg)
 }
 
-/// The command with one more subcommand, which has no global argument, if both were built.
+/// Adds a subcommand, or passes on the first allocation failure.
 pub fn with_command<'a>(
     above: Result<Command<'a>, AllocError>,
     below: Result<Command<'a>, AllocError>,
@@ -95,7 +95,7 @@ pub fn with_command<'a>(
     above?.subcommand(below?)
 }
 
-/// What `clap` finds in the arguments for a command, if the command was built. The first one is the program's name, as in `env::args`.
+/// Parses the arguments with `clap`. The first one is the program's name, as in `env::args`.
 pub fn read_matches<'a, S: AsStr>(
     command: Result<Command<'a>, AllocError>,
     words: &'a [S],
@@ -106,8 +106,8 @@ pub fn read_matches<'a, S: AsStr>(
     Ok(command?.try_get_matches_from(words)?)
 }
 
-/// The arguments of the process, the program's name first. If one of them is not UTF-8, that is a usage error with the text from
-/// `clap`; only in this case is the program's command built.
+/// The arguments of the process, the program's name first. An argument that is not UTF-8 is a usage error in clap's
+/// form. Only then is `command` called.
 pub fn words_of<'a, C>(rt: &HostRuntime, command: C) -> Result<Vec<String>, WordFault>
 where
     C: FnOnce() -> Result<Command<'a>, AllocError>,
@@ -120,7 +120,7 @@ where
     }
 }
 
-/// The fault for arguments that are not all UTF-8, in clap's form.
+/// `env::args` fails before `clap` sees the arguments, so this builds clap's error for it.
 fn not_text(mut command: Command<'_>) -> Result<WordFault, AllocError> {
     let message = "invalid UTF-8 was found in one or more arguments";
     let error = command.error(ErrorKind::ValueValidation, message);

@@ -1,11 +1,12 @@
-//! The explanations of refusals, which documents and web pages repeat: a line for each kind of refusal with the name. The crate
-//! life_tables prints them for tools/make-tables.
+//! The explanations of refusals. `life explain` prints them, and tools/make-tables copies them into documents and web
+//! pages from the output of the crate life_tables.
 ghost use Rattle.std.specs.Prelude.{◌≡◌, IfOk, is_some, map, option_map};
 ghost use Rattle.life_words.specs.Explain.{rows_of, names_of, text_in, refusal_names, is_refusal, explanations, explanation_of};
 
 use std::alloc::{AllocError, Global};
 
-/// The names of refusals and faults in the order of their bytes, each with a line for each kind of refusal that has it, ended by a line feed.
+/// The names in byte order. A text has one line for each kind of refusal with this name, and each line ends with a
+/// line feed.
 static EXPLANATIONS: [(&str, &str); 34] = [
     (
         "bad-code",
@@ -148,7 +149,7 @@ static EXPLANATIONS: [(&str, &str); 34] = [
     ),
 ];
 
-/// The table of all names and their texts.
+/// `EXPLANATIONS` as a slice.
 #[tactic(auto, unfolding(crate::specs::Explain::explanations))]
 fn table() -> &'static [(&'static str, &'static str)]
     ensures { rows_of result.now ≡ explanations }
@@ -156,7 +157,7 @@ fn table() -> &'static [(&'static str, &'static str)]
     EXPLANATIONS.as_slice()
 }
 
-/// The text of the first row that has this name.
+/// A linear search; the table has some thirty rows.
 fn text_in(table: &[(&'static str, &'static str)], name: &str) -> Option<&'static str>
     ensures { option_map (λ text. text.now) result ≡ text_in (rows_of table.now) name.now }
 {
@@ -168,7 +169,6 @@ fn text_in(table: &[(&'static str, &'static str)], name: &str) -> Option<&'stati
     None
 }
 
-/// The names of the rows.
 fn names_in(
     alloc: Global,
     table: &[(&'static str, &'static str)],
@@ -182,7 +182,7 @@ fn names_in(
     Ok(names)
 }
 
-/// The explanation of the refusals and faults with this name, if there are any.
+/// The output of `life explain NAME`; `None` if no refusal or fault has this name.
 pub fn explanation(name: &str) -> Option<&'static str>
     ensures names { is_some result ≡ is_refusal name.now }
     ensures text { option_map (λ text. text.now) result ≡ explanation_of name.now }
@@ -190,7 +190,7 @@ pub fn explanation(name: &str) -> Option<&'static str>
     text_in(table(), name)
 }
 
-/// The names of all refusals and faults, in the order of their bytes.
+/// All names in byte order. `clap` lists them in its error for an unknown name.
 pub fn refusal_names(alloc: Global) -> Result<Vec<&'static str>, AllocError>
     ensures { IfOk result (λ v. map (λ name. name.now) v.items ≡ refusal_names) }
 {

@@ -2,7 +2,7 @@
 ghost use Rattle.std.specs.Prelude.{◌≡◌, codes, map, option_map, IfOk, false};
 ghost use Rattle.clap.specs.Words.{app_of, rule_of, rows_of, found_of, subcommand_rows_of};
 ghost use Rattle.clap.specs.declared.builder.command.Command.TheViews.{out-Command as fields_of};
-ghost use Rattle.life_words.specs.Words.{number_rule_in, text_rule, file_rule, quick_rule, MakesCommand, object, census, deposit, serve, check, explain, life_alone, life_app};
+ghost use Rattle.life_words.specs.Words.{number_rule_in, text_rule, file_rule, quick_rule, MakesCommand, object, census, deposit, serve, check, explain, bare_life, life_app};
 ghost use Rattle.life_words.specs.Words.{number_at, text_at, is_given, asked_by, explain_of, job_named, by_subcommand, words_job, Answers};
 
 use crate::commands::{
@@ -102,38 +102,37 @@ A refusal is one line 'refused: NAME' on standard error, with status 1.
 Usage errors and requests for help end with status 2.
 Example: life generation 1 < glider.rle";
 
-/// What to do.
+/// What the arguments tell `life` to do. The ranges of `n` and `limit` are not checked yet.
 #[derive(Clone, Copy, Debug, PartialEq, Eq)]
 pub enum Job<'a> {
-    /// Print the generation of this number of the pattern on standard input.
+    /// Print generation N of the pattern on standard input.
     Generation(u64),
-    /// Print the kind of the pattern on standard input, searching for periods up to this limit.
+    /// Print the kind of the pattern on standard input, for periods up to this limit.
     Kind(u64),
-    /// Print the pattern of a code under a rule and a limit on the period.
+    /// Print the pattern that `code` names under `rule`. The period is at most `limit`.
     Object {
         rule: &'a str,
         code: &'a str,
         limit: u64,
     },
-    /// Print the tally of the clusters of this generation of the pattern on standard input, under this
-    /// limit on the period.
+    /// Print a census of generation `n` of the pattern on standard input: how many clusters have each code.
     Census {
         n: u64,
         limit: u64,
     },
-    /// Deposit the pattern on standard input in the archive in this file.
+    /// Store the pattern on standard input in the archive in this file.
     Deposit {
         file: &'a str,
         member: &'a str,
         token: &'a str,
     },
-    /// Serve the archive in this file at this port, for this many connections.
+    /// Serve the archive in this file over HTTP, and end after this many connections.
     Serve {
         file: &'a str,
         port: u64,
         connections: u64,
     },
-    /// Check the archive in this file. A quick check counts no census.
+    /// Check the archive in this file. A quick check doesn't count the censuses again.
     Check {
         file: &'a str,
         quick: bool,
@@ -186,7 +185,7 @@ fn deposit_command<'a>(alloc: Global) -> Result<Command<'a>, AllocError>
     )
 }
 
-// The option `--port`.
+// Here `clap` checks the range, so port 0 is a usage error.
 fn port_arg<'a>(alloc: Global) -> Arg<'a>
     ensures rule { rule_of result ≡ number_rule_in (codes "P") (codes "port") 65535 }
     ensures local { result.global ≡ false }
@@ -196,7 +195,6 @@ fn port_arg<'a>(alloc: Global) -> Arg<'a>
         .long("port")
 }
 
-// The option `--connections`.
 fn connections_arg<'a>(alloc: Global) -> Arg<'a>
     ensures rule { rule_of result ≡ number_rule_in (codes "N") (codes "connections") 1000000 }
     ensures local { result.global ≡ false }
@@ -219,7 +217,6 @@ fn serve_command<'a>(alloc: Global) -> Result<Command<'a>, AllocError>
     with_arg(command, connections_arg(alloc))
 }
 
-// The option `--quick`.
 fn quick_arg<'a>(alloc: Global) -> Arg<'a>
     ensures rule { rule_of result ≡ quick_rule }
     ensures local { result.global ≡ false }
@@ -238,7 +235,7 @@ fn check_command<'a>(alloc: Global) -> Result<Command<'a>, AllocError>
     with_arg(command, quick_arg(alloc))
 }
 
-// The name of a refusal or a fault.
+// `clap` accepts any name here. Only `refuse_name` gives it the list of names.
 fn name_arg<'a>(alloc: Global) -> Arg<'a>
     ensures rule { rule_of result ≡ text_rule (codes "NAME") }
     ensures local { result.global ≡ false }
@@ -250,7 +247,7 @@ fn name_arg<'a>(alloc: Global) -> Arg<'a>
     )
 }
 
-// The command with this argument for the name.
+// The caller gives the argument, because `refuse_name` needs one that lists the names.
 fn explain_command<'a>(alloc: Global, name: Arg<'a>) -> Result<Command<'a>, AllocError>
     requires { name.global ≡ false }
     ensures app { rule_of name.entry ≡ text_rule (codes "NAME") → IfOk result (λ command. app_of command ≡ explain) }
@@ -260,9 +257,9 @@ fn explain_command<'a>(alloc: Global, name: Arg<'a>) -> Result<Command<'a>, Allo
     with_arg(command, name)
 }
 
-// The command without its subcommands.
-fn command_alone<'a>(alloc: Global) -> Command<'a>
-    ensures { app_of result ≡ life_alone }
+// `life` before its subcommands are added.
+fn bare_command<'a>(alloc: Global) -> Command<'a>
+    ensures { app_of result ≡ bare_life }
 {
     program_command(alloc, "life", LIFE_ABOUT, LIFE_HELP).subcommand_required(true)
 }
@@ -275,7 +272,7 @@ pub fn life_command<'a>(alloc: Global) -> Result<Command<'a>, AllocError>
     let generation = with_arg(generation, generation_arg(alloc));
     let kind = Ok(named_command(alloc, "kind", KIND_ABOUT, KIND_HELP));
     let kind = with_arg(kind, limit_arg(alloc));
-    let command = with_command(Ok(command_alone(alloc)), generation);
+    let command = with_command(Ok(bare_command(alloc)), generation);
     let command = with_command(command, kind);
     let command = with_command(command, object_command(alloc));
     let command = with_command(command, census_command(alloc));
@@ -285,14 +282,14 @@ pub fn life_command<'a>(alloc: Global) -> Result<Command<'a>, AllocError>
     with_command(command, explain_command(alloc, name_arg(alloc)))
 }
 
-/// The number of the argument with this id.
+/// The number given for the argument `id`, if any.
 pub fn number_in(found: &ArgMatches<'_>, id: &str) -> Option<u64>
     ensures { result ≡ number_at id.now (rows_of (found_of found.now)) }
 {
     found.get_one(id)
 }
 
-/// The text of the argument with this id.
+/// The text given for the argument `id`, if any.
 pub fn text_in<'a>(found: &ArgMatches<'a>, id: &str) -> Option<&'a str>
     ensures { option_map (λ text. text.now) result ≡ text_at id.now (rows_of (found_of found.now)) }
 {
@@ -309,14 +306,13 @@ fn is_given(found: &ArgMatches<'_>, id: &str) -> bool
     }
 }
 
-// The limit on the period.
 fn limit_in(found: &ArgMatches<'_>) -> Option<u64>
     ensures { result ≡ number_at (codes "LIMIT") (rows_of (found_of found.now)) }
 {
     number_in(found, "LIMIT")
 }
 
-// `None` if no refusal has the name.
+// `None` for an unknown name, which `read_words` turns into a usage error.
 fn explain_in<'a>(found: &ArgMatches<'a>) -> Option<Job<'a>>
     ensures { option_map asked_by result ≡ explain_of (text_at (codes "NAME") (rows_of (found_of found.now))) }
 {
@@ -328,7 +324,7 @@ fn explain_in<'a>(found: &ArgMatches<'a>) -> Option<Job<'a>>
     }
 }
 
-// The job of the subcommand that was given.
+// `clap` has checked all required arguments by now, so in practice only an unknown name of a refusal gives `None`.
 fn job_in<'a>(matches: &ArgMatches<'a>) -> Option<Job<'a>>
     ensures { option_map asked_by result ≡ by_subcommand job_named (subcommand_rows_of matches.now) }
 {
@@ -364,16 +360,16 @@ fn job_in<'a>(matches: &ArgMatches<'a>) -> Option<Job<'a>>
     }
 }
 
-// Fails for an unknown name of a refusal: `clap` lists the names, and suggests a similar one.
+// Parses again with the list of known names, so that clap's error lists them and suggests a similar one.
 fn refuse_name<S: AsStr>(alloc: Global, words: &[S]) -> Result<(), WordFault> {
     let names = refusal_names(alloc)?;
     let name = name_arg(alloc).value_parser(ValueParser::Names(names.as_slice()));
-    let command = with_command(Ok(command_alone(alloc)), explain_command(alloc, name));
+    let command = with_command(Ok(bare_command(alloc)), explain_command(alloc, name));
     read_matches(command, words)?;
     Ok(())
 }
 
-/// The job that the arguments name. The first one is the program's name, as in `env::args`.
+/// Reads the command line of `life`. The first argument is the program's name, as in `env::args`.
 ///
 /// A request for help is also a fault: `BadWords` with the text of the help.
 pub fn read_words<'a, S: AsStr>(alloc: Global, words: &'a [S]) -> Result<Job<'a>, WordFault>

@@ -1,4 +1,4 @@
-//! Why arguments name no job.
+//! The faults that end a program before it has a job.
 ghost use Rattle.std.specs.Prelude.{◌≡◌};
 ghost use Rattle.life_words.specs.WordFault.{number_of, ComesFrom};
 
@@ -6,17 +6,17 @@ use clap::Error;
 use clap::error::ErrorKind;
 use std::alloc::AllocError;
 
-/// Why arguments name no job.
+/// Why the arguments don't give a job. For `--help` and `--version` `clap` reports their text as an error too.
 #[derive(Drop)]
 pub enum WordFault {
-    /// A usage error, or a request for help or for the version. The error has the text for the user.
+    /// A usage error, or a request for help or the version, with clap's text. Without an error, nothing is printed.
     BadWords(Option<Error>),
     /// Out of memory.
     Memory,
 }
 
 impl WordFault {
-    /// The number of the fault: 1 for a usage error, 2 for out of memory.
+    /// 1 for a usage error or a request for help, 2 for out of memory.
     pub fn number(&self) -> u8
         ensures { result ≡ number_of self.now }
     {

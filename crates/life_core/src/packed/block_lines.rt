@@ -1,4 +1,4 @@
-//! The marked blocks of all lines.
+//! Stepping the marked blocks of a frame, in the order of their marks.
 ghost use Rattle.std.specs.Prelude.{◌≡◌, ◌⊎◌, ℕ, ◌+◌, ◌-◌, ◌*◌, ◌^◌, ◌≤◌, ◌<◌, length, slice_index_or, IsTrue};
 ghost use Rattle.life_core.specs.Rule.{RuleSets};
 ghost use Rattle.life_core.specs.PackedBlocksState.{flat_next, IsOutside};
@@ -10,7 +10,7 @@ use crate::packed::lane_rule::LaneRule;
 use crate::packed::lanes::{left_half, right_half};
 use crate::packed::wide_blocks::wide_step;
 
-/// Steps the block in a line and a column.
+/// Steps the block in a line and a column, and marks the blocks that its changes reach.
 #[inline(always)]
 fn single_step<R: LaneRule<4>>(
     rule: &R,
@@ -140,7 +140,7 @@ fn columns_step<R: LaneRule<4>>(
     column + 1
 }
 
-/// The line of the block at `b`, which is in this line or in a later one.
+/// The line of the block with mark `b`, which is `line` or a later one. It divides only if the line has changed.
 #[inline(always)]
 fn line_of(columns: usize, line: usize, b: usize) -> usize
     requires some { 1 ≤ columns }
@@ -156,7 +156,7 @@ fn line_of(columns: usize, line: usize, b: usize) -> usize
     (b - 1) / columns
 }
 
-/// Steps the marked blocks of all lines except the first and the last.
+/// Steps the marked blocks. The first and the last line are margins: they are read but never written.
 pub(crate) fn advance_blocks<R: LaneRule<4>>(
     rule: &R,
     columns: usize,

@@ -1,4 +1,4 @@
-//! Marks of the blocks that a change reaches, a bit each.
+//! Marks: a bit for each block, set if a change reaches it, so that the next step has to compute it.
 ghost use Rattle.std.specs.Prelude.{◌≡◌, ℕ, ◌+◌, ◌-◌, ◌*◌, ◌^◌, ◌≤◌, ◌<◌, length, slice_index_or, IsTrue, IsFalse};
 ghost use Rattle.life_core.specs.PackedRow.{place};
 ghost use Rattle.life_core.specs.PackedMarksState.{KeepsMarks, IsMarked, AreNeighboursMarked};
@@ -39,7 +39,7 @@ pub(crate) fn is_marked(marks: &[u64], j: usize) -> bool
     (marks[j / 64] >> (j % 64)) % 2 == 1
 }
 
-/// The first mark from `from` on that is set, or `to`.
+/// The first set mark in `from..to`, or `to`.
 #[inline(always)]
 pub(crate) fn next_mark(marks: &[u64], from: usize, to: usize) -> usize
     requires from { from ≤ to }
@@ -82,8 +82,7 @@ fn set_mark_if(marks: &mut [u64], j: usize, is_asked: bool)
     }
 }
 
-/// Marks the block at `b` of a line and those beside it, if changed places in this row of its columns
-/// reach them.
+/// Marks block `b` if any place has changed, and its left or right neighbour if the outermost place on that side has.
 #[inline(always)]
 fn mark_block(changed: u64x2, b: usize, marks: &mut [u64])
     requires first { 1 ≤ b }
@@ -102,8 +101,8 @@ fn mark_block(changed: u64x2, b: usize, marks: &mut [u64])
     set_mark_if(marks, b + 1, last(changed));
 }
 
-/// Marks every block that has a neighbour of a changed cell of the block at `b`. The three arguments have the
-/// columns that changed in any row, in the first row and in the last.
+/// Marks each block that a change in block `b` reaches: itself, and up to eight around it. The vectors have a bit for
+/// each column that changed: in any row, in the first row and in the last.
 #[inline(always)]
 pub(crate) fn mark_neighbours(
     all: u64x2,

@@ -20,7 +20,7 @@ fn two_rows(rows: &[u64], words: usize, k: usize) -> u64x4
     joined(lanes_at(rows, k), lanes_at(rows, k + words))
 }
 
-/// Their left neighbours.
+/// The left neighbours of the places of [`two_rows`].
 #[inline(always)]
 fn two_rows_from_left(rows: &[u64], words: usize, k: usize) -> u64x4
     requires first { 1 ≤ k }
@@ -31,7 +31,7 @@ fn two_rows_from_left(rows: &[u64], words: usize, k: usize) -> u64x4
     (two_rows(rows, words, k) << 1) | (two_rows(rows, words, k - 1) >> 63)
 }
 
-/// Their right neighbours.
+/// The right neighbours of the places of [`two_rows`].
 #[inline(always)]
 fn two_rows_from_right(rows: &[u64], words: usize, k: usize) -> u64x4
     requires { k + words + 3 ≤ length rows.now }
@@ -64,8 +64,8 @@ fn between(upper: u64x4, lower: u64x4) -> u64x4
     joined(right_half(upper), left_half(lower))
 }
 
-/// Two rows one generation later. `above` has the sums of the row above them and of the first, `below` those of the
-/// second and of the row below them.
+/// The next generation of two rows. `above` has the sums of the row above them and of the first row, `below` has the
+/// sums of the second row and of the row below them.
 #[inline(always)]
 fn next_rows<R: LaneRule<4>>(rule: &R, above: WideSums, below: WideSums) -> u64x4
     ensures { (r : RuleSets) (rows : List ℕ) (words k : ℕ) → R.is_of rule.now r → words + 1 ≤ k → AreTwoRows rows words (k - words) above → AreTwoRows rows words (k + words) below → AreNextRows (flat_next r rows (64 * words)) words k result }
@@ -81,8 +81,7 @@ fn next_rows<R: LaneRule<4>>(rule: &R, above: WideSums, below: WideSums) -> u64x
     )
 }
 
-/// The places of a block that changed: anywhere in its two columns of words, in its first row and in
-/// its last.
+/// A bit for each of a block's 128 columns: whether it changed in any row, in the first row, in the last row.
 #[derive(Clone, Copy)]
 pub(crate) struct Changes {
     pub(crate) all: u64x2,

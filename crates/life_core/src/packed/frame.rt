@@ -73,7 +73,7 @@ impl Frame {
             && is_between(self.top, self.height, cell.row)
     }
 
-    /// The column and the row of a cell, from the left and the top.
+    /// The cell's column and row within the frame.
     pub(crate) fn offset(self, cell: Cell) -> (usize, usize)
         requires frame { IsFrame self }
         requires cell { IsIn self.left self.top (64 * self.words) self.height cell }
@@ -87,7 +87,7 @@ impl Frame {
         )
     }
 
-    /// The cell at a place.
+    /// The cell of place `p`: bit `p % 64` of word `p / 64`, counted through all rows.
     pub(crate) fn cell(self, p: usize) -> Cell
         requires frame { IsFrame self }
         requires p { p < 64 * (self.height * self.words) }
@@ -100,7 +100,7 @@ impl Frame {
         }
     }
 
-    /// The frame, larger by these numbers of columns and lines of blocks.
+    /// The frame extended by columns of blocks on the left and right, and by lines of blocks at the top and bottom.
     pub(crate) fn grown(self, left: usize, right: usize, top: usize, bottom: usize) -> Frame
         requires frame { IsFrame self }
         requires few { (left ≤ 64) × (right ≤ 64) × (top ≤ 64) × (bottom ≤ 64) }

@@ -14,8 +14,8 @@ pub(crate) trait Evolves {
 
 /// A form of a rule with which `N` words of a row evolve at once.
 pub(crate) trait LaneRule<const N: usize>: Evolves {
-    /// The places that are live next, from the digits of the sums of the row above, of the two places
-    /// beside each place, and of the row below.
+    /// The places that are live next. The other arguments are sums of two binary digits: of the three places above, of
+    /// the two neighbours in the row (`sides`), and of the three places below.
     fn next_lanes(
         &self,
         here: Simd<u64, N>,
@@ -29,7 +29,7 @@ pub(crate) trait LaneRule<const N: usize>: Evolves {
         ensures { (r : RuleSets) → Self.is_of self.now r → AreNextLanes r N here.entry above.entry above2.entry sides.entry sides2.entry below.entry below2.entry result };
 }
 
-/// Conway's Life, which has a shorter formula.
+/// Conway's Life, by a shorter formula: the count is 2 or 3 exactly when one of the four bits of value 2 is set.
 #[derive(Clone, Copy)]
 pub(crate) struct ConwayLife;
 

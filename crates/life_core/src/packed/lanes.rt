@@ -1,4 +1,4 @@
-//! Several words of a row at a time.
+//! Operations on several words of a row at once.
 ghost use Rattle.std.specs.Prelude.{◌≡◌, ℕ, ◌+◌, ◌-◌, ◌*◌, ◌/◌, ◌%◌, ◌≤◌, ◌<◌, length, slice_index_or};
 ghost use Rattle.life_core.specs.PackedRow.{place};
 
@@ -52,7 +52,7 @@ pub(crate) fn lanes_from_right<const N: usize>(words: &[u64], k: usize) -> Simd<
     (lanes_at(words, k) >> 1) | (lanes_at(words, k + 1) << 63)
 }
 
-/// Two words, and two after them.
+/// The words of both vectors, one after the other.
 #[inline(always)]
 pub(crate) fn joined(first: u64x2, second: u64x2) -> u64x4
     ensures first { (j : ℕ) → j < 2 → slice_index_or result j 0 ≡ slice_index_or first j 0 }

@@ -11,13 +11,13 @@ ghost use Rattle.life_core.specs.PackedMarginsState.{HasSlack, IsWhole, IsWider,
 use crate::cell::PLANE;
 use crate::packed::frame::Frame;
 
-/// The lower half of a word.
+/// The left half of the columns of a word.
 const LOW_HALF: u64 = 0xFFFF_FFFF;
 
-/// The upper half of a word.
+/// The right half of the columns of a word.
 const HIGH_HALF: u64 = 0xFFFF_FFFF_0000_0000;
 
-/// A wider frame, and how many words and rows it adds in front of those of the narrower one.
+/// A wider frame, and how many words it adds on the left and rows at the top.
 #[derive(Clone, Copy)]
 pub(crate) struct Wider {
     pub(crate) frame: Frame,
@@ -25,16 +25,15 @@ pub(crate) struct Wider {
     pub(crate) top: usize,
 }
 
-/// For how many generations there is room, according to the margins, if there was room for this
-/// many before.
+/// For how many generations there is room after [`with_room`], which checks the margins only when none is left.
 pub(crate) fn room_after_check(slack: u32) -> u32
     ensures { result ≡ checked_room slack }
 {
     if slack == 0 { 31 } else { slack }
 }
 
-/// A wider frame, if this one has no room for one more generation and its margins are too small for
-/// 31. A side that is too small grows by a fraction of the frame's size, so that it grows rarely.
+/// A wider frame, if the known room is used up and a margin is too small for 31 more generations. That side grows in
+/// proportion to the frame's size, so that it grows rarely.
 pub(crate) fn with_room(frame: Frame, rows: &[u64], slack: u32) -> Option<Wider>
     requires frame { IsFrame frame }
     requires whole { IsWhole frame }
@@ -64,7 +63,7 @@ pub(crate) fn with_room(frame: Frame, rows: &[u64], slack: u32) -> Option<Wider>
     })
 }
 
-/// By how many blocks a side grows: an eighth of the present number, plus these.
+/// By how many blocks a side grows: an eighth of the present number, but at most 60, plus `least`.
 fn growth(size: usize, least: usize) -> usize
     requires { least ≤ 4 }
     ensures some { least ≤ result }
@@ -73,7 +72,7 @@ fn growth(size: usize, least: usize) -> usize
     least + (size / 8).min(60)
 }
 
-/// How many columns of blocks the frame lacks on the left.
+/// How many columns of blocks to add on the left: 0 if the margin there is free.
 fn left_growth(frame: Frame, rows: &[u64]) -> usize
     requires frame { IsFrame frame }
     requires rows { frame.height * frame.words ≡ length rows.now }
@@ -89,7 +88,7 @@ fn left_growth(frame: Frame, rows: &[u64]) -> usize
     }
 }
 
-/// How many columns of blocks the frame lacks on the right.
+/// How many columns of blocks to add on the right.
 fn right_growth(frame: Frame, rows: &[u64]) -> usize
     requires frame { IsFrame frame }
     requires rows { frame.height * frame.words ≡ length rows.now }
@@ -105,7 +104,7 @@ fn right_growth(frame: Frame, rows: &[u64]) -> usize
     }
 }
 
-/// How many lines of blocks the frame lacks above.
+/// How many lines of blocks to add at the top.
 fn top_growth(frame: Frame, rows: &[u64]) -> usize
     requires frame { IsFrame frame }
     requires whole { IsWhole frame }
@@ -122,7 +121,7 @@ fn top_growth(frame: Frame, rows: &[u64]) -> usize
     }
 }
 
-/// How many lines of blocks the frame lacks below.
+/// How many lines of blocks to add at the bottom.
 fn bottom_growth(frame: Frame, rows: &[u64]) -> usize
     requires frame { IsFrame frame }
     requires whole { IsWhole frame }
@@ -139,7 +138,7 @@ fn bottom_growth(frame: Frame, rows: &[u64]) -> usize
     }
 }
 
-/// Whether no live cell is in the lower half of the first words, or none can be.
+/// Whether the 32 leftmost columns have no live cell. Those outside the plane never have one.
 fn left_is_free(frame: Frame, rows: &[u64]) -> bool
     requires frame { IsFrame frame }
     requires rows { frame.height * frame.words ≡ length rows.now }
@@ -150,7 +149,7 @@ fn left_is_free(frame: Frame, rows: &[u64]) -> bool
     frame.left < -i64::from(PLANE) - 32 || column_is_dead(frame, rows, 0, LOW_HALF)
 }
 
-/// Whether no live cell is in the upper half of the last words, or none can be.
+/// Whether the 32 rightmost columns have no live cell.
 fn right_is_free(frame: Frame, rows: &[u64]) -> bool
     requires frame { IsFrame frame }
     requires rows { frame.height * frame.words ≡ length rows.now }
@@ -162,7 +161,7 @@ fn right_is_free(frame: Frame, rows: &[u64]) -> bool
         || column_is_dead(frame, rows, frame.words - 1, HIGH_HALF)
 }
 
-/// Whether no live cell is in the first three lines of blocks, or none can be.
+/// Whether the first three lines of blocks have no live cell.
 fn top_is_free(frame: Frame, rows: &[u64]) -> bool
     requires frame { IsFrame frame }
     requires whole { IsWhole frame }
@@ -174,7 +173,7 @@ fn top_is_free(frame: Frame, rows: &[u64]) -> bool
     frame.top < -i64::from(PLANE) - 48 || rows_are_dead(frame, rows, 0, 48)
 }
 
-/// Whether no live cell is in the last three lines of blocks, or none can be.
+/// Whether the last three lines of blocks have no live cell.
 fn bottom_is_free(frame: Frame, rows: &[u64]) -> bool
     requires frame { IsFrame frame }
     requires whole { IsWhole frame }
@@ -187,7 +186,7 @@ fn bottom_is_free(frame: Frame, rows: &[u64]) -> bool
         || rows_are_dead(frame, rows, frame.height - 48, frame.height)
 }
 
-/// Whether no word `j` of the rows has a bit of the mask.
+/// Whether word `j` of every row has no bit of the mask set.
 fn column_is_dead(frame: Frame, rows: &[u64], j: usize, mask: u64) -> bool
     requires frame { IsFrame frame }
     requires j { j < frame.words }
@@ -201,7 +200,7 @@ fn column_is_dead(frame: Frame, rows: &[u64], j: usize, mask: u64) -> bool
     all & mask == 0
 }
 
-/// Whether all places of the rows from one up to another are dead.
+/// Whether all places of the rows `from..to` are dead.
 fn rows_are_dead(frame: Frame, rows: &[u64], from: usize, to: usize) -> bool
     requires ends { (from ≤ to) × (to ≤ frame.height) }
     requires rows { frame.height * frame.words ≡ length rows.now }

@@ -23,9 +23,8 @@ use std::alloc::{AllocError, Allocator, Global};
 use std::marker::Model;
 use std::mem;
 
-/// Rows of words with a bit for each cell of a box around the live cells, in whole blocks of two words
-/// and sixteen rows. A generation takes time linear in the number of blocks in or next to which cells
-/// differ from those two generations before.
+/// Rows of words with a bit for each cell of a box around the live cells, in whole blocks of two words and sixteen
+/// rows. A step computes only blocks at or next to cells that differ from two generations before.
 #[derive(Debug, Drop)]
 pub struct PackedRows<A: Allocator = Global> {
     frame: Frame,
@@ -162,7 +161,7 @@ fn all_marks<A: Allocator>(alloc: A, frame: Frame) -> Result<Vec<u64, A>, AllocE
     Ok(marks)
 }
 
-/// Keeps as many marks as a narrower frame needs.
+/// Shortens the marks to the length for a narrower frame. Their values mean nothing there; the next step sets them all.
 fn keep_marks<A: Allocator>(marks: &mut Vec<u64, A>, frame: Frame)
     requires frame { IsFrame frame }
     requires enough { mark_at (frame.words / 2) (frame.height / 16) 0 < 64 * length marks.old.items }
@@ -178,10 +177,9 @@ fn and_flags(a: bool, b: bool) -> bool
     a & b
 }
 
-/// Writes the rows one generation later into `out`, and what it changes into the marks for the step
-/// after this one. If a block is not marked, `out` already has its next generation, provided that
-/// `rows` come after `out`. If they don't, all blocks are computed, in this step and in the next.
-/// The marks of this step are cleared.
+/// Writes the next generation into `out`, and sets the marks for the step after this one. Under `follows`, `out` has
+/// the generation before `rows`, which is already right for blocks without a mark. Otherwise this step and the next
+/// compute all blocks. It clears the marks of this step.
 fn advance(
     rule: &Rule,
     frame: Frame,
@@ -229,7 +227,7 @@ fn set_unless(kept: bool, marks: &mut [u64])
     }
 }
 
-/// `advance_blocks` with the form of this rule.
+/// Steps the blocks by the shorter formula if the rule is Life, and otherwise by the rule's form.
 fn rule_blocks(
     rule: &Rule,
     columns: usize,

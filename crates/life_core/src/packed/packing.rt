@@ -16,7 +16,7 @@ use crate::packed::margins::Wider;
 use crate::runs::{Run, Runs};
 use std::alloc::{AllocError, Allocator};
 
-/// Sets this many bits from place `from` on; all bits of a word at once.
+/// Sets `len` bits from place `from` on, a word at a time.
 fn set_bits(rows: &mut [u64], from: usize, len: usize)
     requires within { from + len ≤ 64 * length rows.old }
     requires few { from + len < 2 ^ 63 }
@@ -68,7 +68,7 @@ pub(crate) fn zeros<A: Allocator>(alloc: A, n: usize) -> Result<Vec<u64, A>, All
     vec![in alloc; 0; n]
 }
 
-/// The words of the cells.
+/// The words of a frame in which exactly these cells are live.
 pub(crate) fn words_of<A: Allocator>(
     alloc: A,
     frame: Frame,
@@ -103,7 +103,7 @@ pub(crate) fn list_cells<A: Allocator>(
     Ok(cells)
 }
 
-/// Goes over words from `k` on that have no live cell, four at a time. All words up to the result are such.
+/// Skips dead words from `k` on, four at a time. Stops at a group with a live cell, or if fewer than four are left.
 fn skip_dead(rows: &[u64], k: usize) -> usize
     requires { k ≤ length rows.now }
     ensures after { k ≤ result }
@@ -218,7 +218,7 @@ fn copy_rows(from: Frame, rows: &[u64], to: Wider, out: &mut [u64])
     }
 }
 
-/// Copies the words to those from `start` on.
+/// Copies the words into `out`, from index `start` on.
 pub(crate) fn copy_at(out: &mut [u64], start: usize, words: &[u64])
     requires { start + length words.now ≤ length out.old }
     ensures { out.new ≡ take start out.old ++ (words.now ++ drop (start + length words.now) out.old) }

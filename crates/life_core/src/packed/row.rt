@@ -9,8 +9,8 @@ use crate::packed::row_lanes::{step_groups, step_rest};
 use crate::packed::rule_form::RuleForm;
 use crate::rule::Rule;
 
-/// Writes the places of the middle row that are live next into `out`. All places outside the three
-/// rows count as dead. It allocates nothing.
+/// Writes the places of the middle row that are live next into `out`. All places outside the three rows count as dead.
+/// It allocates nothing. Planes step by blocks instead; only tests call this.
 pub fn row_step(above: &[u64], here: &[u64], below: &[u64], rule: &Rule, out: &mut [u64])
     requires above { length above.now ≡ length out.old }
     requires here { length here.now ≡ length out.old }
@@ -27,9 +27,8 @@ pub fn row_step(above: &[u64], here: &[u64], below: &[u64], rule: &Rule, out: &m
     }
 }
 
-/// What a step of a row means: with the three rows as a set whose cells are in rows -1, 0 and 1, in the
-/// columns of their places, the result has the cells of row 0 one generation later. A law: calling it
-/// does nothing.
+/// If the three rows are rows -1, 0 and 1 of the plane and all else is dead, a step gives row 0 of the next generation,
+/// in the columns that it has. A law: calling it does nothing.
 pub fn laws_of_row_steps()
     ensures { PlacesAreNext }
 {}

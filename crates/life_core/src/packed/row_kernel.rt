@@ -1,4 +1,5 @@
-//! Words of a row one generation later, from sums that are computed once for each of three rows. `row_step` and the step of blocks use it.
+//! The next generation of a row's words. The sums of each row are computed once, and serve that row and the rows above
+//! and below it.
 ghost use Rattle.std.specs.Prelude.{◌≡◌, ◌⊎◌, ℕ, ◌+◌, ◌-◌, ◌*◌, ◌≤◌, ◌<◌, List, length, nat_eq, slice_index_or};
 ghost use Rattle.life_core.specs.PackedRow.{place, one_if};
 ghost use Rattle.life_core.specs.Rule.{RuleSets, lives_at};
@@ -27,8 +28,8 @@ pub(crate) fn put_lanes<const N: usize>(
     old ^ new
 }
 
-/// Four words, of a row or of two. For each cell: how many of its two neighbours in its row are live (`sides`), and how
-/// many of the three cells, itself with them (`all`). Each number has two binary digits.
+/// Four words, of a row or of two. For each cell, `sides` counts its two neighbours in the row, and `all` counts the
+/// cell itself as well. `sides2` and `all2` are the upper binary digits.
 #[derive(Clone, Copy)]
 pub(crate) struct WideSums {
     pub(crate) here: u64x4,

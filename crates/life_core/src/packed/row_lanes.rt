@@ -1,5 +1,4 @@
-//! The next generation of a row's words: groups of four with `row_kernel`, as in the step of blocks, and the remaining words
-//! one by one.
+//! The two parts of `row_step`: groups of four words by `row_kernel`, then the remaining words one by one.
 ghost use Rattle.std.specs.Prelude.{◌≡◌, ◌⊎◌, ℕ, ◌+◌, ◌-◌, ◌*◌, ◌/◌, ◌<◌, ◌≤◌, length, nat_lt, slice_index_or, if◌then◌else◌};
 ghost use Rattle.std.specs.Int.{bit_at};
 ghost use Rattle.life_core.specs.PackedRow.{place, place_before, next_place};

@@ -1,4 +1,4 @@
-//! Rules as normal forms, with which several words of a row evolve at once.
+//! Rules as algebraic normal forms: the XOR of ANDs of a count's binary digits, evaluated on several words at once.
 ghost use Rattle.std.specs.Prelude.{◌≡◌, ℕ, ◌+◌, ◌*◌, ◌%◌, ◌≤◌, ◌<◌, length, min, nat_eq, slice_index_or, if◌then◌else◌};
 ghost use Rattle.std.specs.Int.{bit_at};
 ghost use Rattle.life_core.specs.PackedRow.{place, one_if};
@@ -43,7 +43,7 @@ fn toggles(from: &[u64; 9], to: &[u64; 9]) -> [u64; 9]
     toggles
 }
 
-/// The parts of nine flags.
+/// The `parts` of the form whose value at each count is the flag of that count.
 fn parts_of(flags: &[bool; 9]) -> [u64; 9]
     ensures { AreParts flags.now result }
 {
@@ -62,7 +62,7 @@ fn parts_of(flags: &[bool; 9]) -> [u64; 9]
     ]
 }
 
-/// The parts of four flags.
+/// The coefficients for four flags, by two binary digits.
 fn parts_of_four(zero: bool, one: bool, two: bool, three: bool) -> [u64; 4]
     ensures { (i o t : ℕ) → i < 64 → o < 2 → t < 2 → toggled_bit (toggled_bit (bit_at (slice_index_or result 0 0) i) o (bit_at (slice_index_or result 1 0) i)) t (toggled_bit (bit_at (slice_index_or result 2 0) i) o (bit_at (slice_index_or result 3 0) i)) ≡ (if nat_eq t 1 then (if nat_eq o 1 then one_if three else one_if two) else (if nat_eq o 1 then one_if one else one_if zero)) }
 {
@@ -71,7 +71,7 @@ fn parts_of_four(zero: bool, one: bool, two: bool, three: bool) -> [u64; 4]
     [low[0], low[1], low[0] ^ high[0], low[1] ^ high[1]]
 }
 
-/// The parts of two flags.
+/// The coefficients for two flags, by one binary digit.
 fn parts_of_two(zero: bool, one: bool) -> [u64; 2]
     ensures { (i o : ℕ) → i < 64 → o < 2 → toggled_bit (bit_at (slice_index_or result 0 0) i) o (bit_at (slice_index_or result 1 0) i) ≡ (if nat_eq o 1 then one_if one else one_if zero) }
 {
@@ -102,7 +102,7 @@ fn spread<const N: usize>(word: u64) -> Simd<u64, N>
     Simd::splat(word)
 }
 
-/// A coefficient of the form, including what live places add.
+/// Coefficient `n` of the form at each place: the part for all places, toggled at live ones by the part for those.
 #[inline(always)]
 fn coefficient<const N: usize>(rule: &RuleForm, here: Simd<u64, N>, n: usize) -> Simd<u64, N>
     requires { n < 9 }
@@ -119,7 +119,7 @@ fn and_bits<const N: usize>(a: Simd<u64, N>, b: Simd<u64, N>) -> Simd<u64, N>
     a & b
 }
 
-/// The places where one of two is set.
+/// The places where exactly one of two is set.
 #[inline(always)]
 fn xor_bits<const N: usize>(a: Simd<u64, N>, b: Simd<u64, N>) -> Simd<u64, N>
     ensures { (p : ℕ) → place result p ≡ (place a.entry p + place b.entry p) % 2 }
@@ -127,7 +127,7 @@ fn xor_bits<const N: usize>(a: Simd<u64, N>, b: Simd<u64, N>) -> Simd<u64, N>
     a ^ b
 }
 
-/// The form for the three lower digits of the counts.
+/// The value of the form at the three lower digits of the counts.
 #[inline(always)]
 fn eval_form<const N: usize>(
     rule: &RuleForm,

@@ -12,8 +12,8 @@ use crate::cell::{Cell, PLANE};
 use crate::packed::frame::Frame;
 use crate::packed::packing::to_the_right;
 
-/// The translation, columns and rows, that takes the set of these words to that of the others; `None`
-/// if the set is empty or there is no such translation.
+/// The translation, columns and rows, that takes the set of these words to the set of the others. `None` if the set is
+/// empty or there is no such translation.
 pub(crate) fn shift_of_words(
     frame: Frame,
     rows: &[u64],
@@ -32,7 +32,8 @@ pub(crate) fn shift_of_words(
     let other = first_cell(to, others)?;
     let there = shift_of(first.1, other.1);
     let back = shift_of(other.1, first.1);
-    // The search for a period compares with later sets, which mostly are larger: then this fails at one of the first or the last cells.
+    // The search for a period compares a set with later ones, which are mostly larger. Testing the later one first
+    // usually fails within a few words.
     if !begins_covered(to, others, other.0, frame, rows, back) {
         return None;
     }
@@ -64,8 +65,8 @@ fn first_cell(frame: Frame, rows: &[u64]) -> Option<(usize, Cell)>
 /// The most words that [`begins_covered`] compares.
 const FIRST_WORDS: usize = 4;
 
-/// Whether the translation takes the live cells of the first words that have some, from the word `start` on, to others; if not, it takes
-/// the set to no part of the other. Shapes that differ mostly do so there.
+/// Whether the translation takes the live cells of the first few words with any, from word `start` on, to live cells of
+/// the others. A quick test before [`covers`]: shapes that differ mostly do so there.
 fn begins_covered(
     frame: Frame,
     rows: &[u64],
@@ -97,8 +98,8 @@ fn begins_covered(
     true
 }
 
-/// Whether the translation takes each live cell of the words to one of the others. It begins with the last word: the
-/// first cells of two shapes that grow often agree, and the last ones then lie elsewhere.
+/// Whether the translation takes each live cell of the words to one of the others. It begins with the last word, since
+/// two stages of a growing shape often agree in their first cells and differ in their last.
 fn covers(frame: Frame, rows: &[u64], to: Frame, others: &[u64], shift: (i64, i64)) -> bool
     requires frame { IsFrame frame }
     requires rows { frame.height * frame.words ≡ length rows.now }

@@ -8,7 +8,7 @@ use crate::packed::frame::Frame;
 use crate::packed::margins::row_is_dead;
 use crate::packed::packing::copy_at;
 
-/// A frame within a wider one, and how many words and rows the wider one has in front of it.
+/// A frame within a wider one, and how many words on the left and rows at the top it leaves out.
 #[derive(Clone, Copy)]
 pub(crate) struct Narrower {
     pub(crate) frame: Frame,
@@ -16,9 +16,8 @@ pub(crate) struct Narrower {
     pub(crate) top: usize,
 }
 
-/// The smallest frame of this one's blocks that has all live cells, three lines of blocks above and
-/// below them, and a column of blocks on each side, if this one has them; `None` if that is this frame
-/// itself.
+/// The frame without its outer dead blocks. It keeps up to three dead lines of blocks above and below the live cells,
+/// and up to one dead column of blocks on each side. `None` if there is nothing to cut off.
 pub(crate) fn narrowed(frame: Frame, rows: &[u64]) -> Option<Narrower>
     requires frame { IsFrame frame }
     requires whole { IsWhole frame }

@@ -1,6 +1,4 @@
-//! One generation of two neighbouring blocks at once: four words and sixteen rows, by vectors of four words.
-//!
-//! Each row goes by `row_kernel`, as a group of `row_step` does.
+//! One generation of two neighbouring blocks at once: sixteen rows, each a vector of four words.
 ghost use Rattle.std.specs.Prelude.{◌≡◌, ℕ, ◌+◌, ◌*◌, ◌≤◌, ◌<◌, length, slice_index_or};
 ghost use Rattle.life_core.specs.PackedRow.{place};
 ghost use Rattle.life_core.specs.Rule.{RuleSets};
@@ -25,7 +23,7 @@ pub(crate) fn wide_sums(rows: &[u64], k: usize) -> WideSums
     )
 }
 
-/// The cells of two blocks that changed: in any of their rows, in their first row and in their last.
+/// A bit for each of the 256 columns of two blocks: whether it changed in any row, in the first row, in the last row.
 #[derive(Clone, Copy)]
 pub(crate) struct WideChanges {
     pub(crate) all: u64x4,

@@ -8,8 +8,8 @@ returns-in-Ok g c = record {
       λ image capacity opens A fits begins.
       unasked_leaves c.args.archive c.args.archive c.law_of_migrated_archives.ensures c.in-Ok.files
       c.in-Ok.ensures.healthy c.in-Ok.ensures.left c.in-Ok.ensures.alone refl image capacity opens A fits begins;
-  let_go = tt;
+  released = tt;
 }
 
 pub returns-in-Err : goal.returns-in-Err
-returns-in-Err g c = record { leaves = λ image capacity opens A fits begins. tt; let_go = c.in-Err.ensures.refused }
+returns-in-Err g c = record { leaves = λ image capacity opens A fits begins. tt; released = c.in-Err.ensures.refused }

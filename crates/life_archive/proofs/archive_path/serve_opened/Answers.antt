@@ -12,7 +12,7 @@ returns-in-Ok g c =
           λ image capacity opens A fits begins.
           closed_leaves c.args.archive last c.law_of_migrated_archives.ensures c.in-Ok.files c.in-Ok.ensures.healthy
           c.in-Ok.ensures.left c.in-Ok.ensures.alone c.args.count _ _ served image capacity opens A fits begins;
-      let_go = tt;
+      released = tt;
     }
 
 pub returns-in-Err : goal.returns-in-Err
@@ -20,5 +20,5 @@ returns-in-Err g c = record {
   last = c.serve_connections.new.archive;
   serves = c.serve_connections.ensures.served;
   leaves = λ image capacity opens A fits begins. tt;
-  let_go = c.in-Err.ensures.refused;
+  released = c.in-Err.ensures.refused;
 }

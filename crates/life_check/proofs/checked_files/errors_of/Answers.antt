@@ -1,8 +1,8 @@
 use Rattle.std.proofs.Common.{rules, ◌≡◌, Result, Ok, subst}
 use Rattle.std.specs.Prelude.{IfOk}
 use Rattle.life_store.specs.declared.store_fault.Unavailable.{Unavailable}
-use Rattle.life_check.specs.declared.judging.CheckVerdict.{CheckVerdict}
-use Rattle.life_check.specs.declared.judging.CheckVerdict.TheVariants.{NotSound}
+use Rattle.life_check.specs.declared.archive_check.CheckVerdict.{CheckVerdict}
+use Rattle.life_check.specs.declared.archive_check.CheckVerdict.TheVariants.{NotSound}
 use Rattle.life_check.specs.Listed.{StopsBeforeCensuses}
 use Rattle.life_check.proofs.checked_files.errors_of.Goals as goal
 

@@ -1,10 +1,10 @@
 use Rattle.std.proofs.Common.{sym}
 use Rattle.life_code.proofs.PeriodKinds.{one_kind}
 use Rattle.life_code.proofs.CodesSteps.{width_of_box, height_of_box}
-use Rattle.life_code.proofs.PeriodLemmas.{phases_come_again, phases_differ}
+use Rattle.life_code.proofs.PeriodLemmas.{phases_repeat, phases_differ}
 use Rattle.life_code.proofs.PeriodBirths.{birth_at_one_never_returns}
 use Rattle.life_code.proofs.PeriodPairs.{pairs_never_return}
-use Rattle.life_code.proofs.ApartUnions.{apart_go_on_alone}
+use Rattle.life_code.proofs.ApartUnions.{apart_evolve_independently}
 use Rattle.life_code.proofs.ApartMoves.{parting_never_returns}
 use Rattle.life_code.proofs.WechslerColumns.{strips_are_their_columns}
 use Rattle.life_code.proofs.WechslerTexts.{texts_tell_apart}
@@ -23,13 +23,13 @@ pub returns-clause-pairs : goal.returns-clause-pairs
 returns-clause-pairs c = pairs_never_return
 
 pub returns-clause-alone : goal.returns-clause-alone
-returns-clause-alone c = apart_go_on_alone
+returns-clause-alone c = apart_evolve_independently
 
 pub returns-clause-parting : goal.returns-clause-parting
 returns-clause-parting c = parting_never_returns
 
-pub returns-clause-phases_come_again : goal.returns-clause-phases_come_again
-returns-clause-phases_come_again c = phases_come_again
+pub returns-clause-phases_repeat : goal.returns-clause-phases_repeat
+returns-clause-phases_repeat c = phases_repeat
 
 pub returns-clause-phases_differ : goal.returns-clause-phases_differ
 returns-clause-phases_differ c = phases_differ

@@ -12,11 +12,11 @@ generation-requires g c =
 pub moved-requires : goal.moved-requires
 moved-requires g c =
     let X = c.args.part.now in
-    let fits_x : SFits w64 c.in-Some.way.column = search rules in
-    let fits_y : SFits w64 c.in-Some.way.row = search rules in
+    let fits_x : SFits w64 c.in-Some.total.column = search rules in
+    let fits_y : SFits w64 c.in-Some.total.row = search rules in
     let v : Cell = record {
-      row = to_z w64 (of_z w64 c.in-Some.way.row);
-      column = to_z w64 (of_z w64 c.in-Some.way.column);
+      row = to_z w64 (of_z w64 c.in-Some.total.row);
+      column = to_z w64 (of_z w64 c.in-Some.total.column);
     } in
     let there : moved v c.in_ok-phase.phase ≡ generation_of c.args.rule.now X c.args.n =
     ap (moved v) c.in_ok-phase.ensures.value ∙ later_is c.args.rule.now X c.args.period c.args.by c.requires.from
@@ -26,11 +26,11 @@ moved-requires g c =
 pub returns : goal.returns
 returns g c =
     let X = c.args.part.now in
-    let fits_x : SFits w64 c.in-Some.way.column = search rules in
-    let fits_y : SFits w64 c.in-Some.way.row = search rules in
+    let fits_x : SFits w64 c.in-Some.total.column = search rules in
+    let fits_y : SFits w64 c.in-Some.total.row = search rules in
     let v : Cell = record {
-      row = to_z w64 (of_z w64 c.in-Some.way.row);
-      column = to_z w64 (of_z w64 c.in-Some.way.column);
+      row = to_z w64 (of_z w64 c.in-Some.total.row);
+      column = to_z w64 (of_z w64 c.in-Some.total.column);
     } in
     c.in_ok-moved.ensures ∙ ap (moved v) c.in_ok-phase.ensures.value
     ∙ later_is c.args.rule.now X c.args.period c.args.by c.requires.from c.requires.back c.args.n v

@@ -10,7 +10,7 @@ use Rattle.sqlite_rules.proofs.ViewLemmas.{still_quiet}
 use Rattle.sqlite_store.specs.FileStore.{state, view}
 use Rattle.sqlite.specs.Closing.{HoldsAlone}
 use Rattle.sqlite.proofs.Theorems.{copied}
-use Rattle.life_store.proofs.RecoverableLemmas.{let_go}
+use Rattle.life_store.proofs.RecoverableLemmas.{released}
 use Rattle.life_store.proofs.opening.close.Goals as goal
 
 pub returns-in-Ok-clause-usable : goal.returns-in-Ok-clause-usable
@@ -54,7 +54,7 @@ returns-in-Ok-clause-copied g c honest =
 pub returns-in-Err-clause-refused : goal.returns-in-Err-clause-refused
 returns-in-Err-clause-refused g c =
     let q = c.checkpoint.ensures.quiet in
-    let_go c.args.conn.store c.checkpoint.new.self c.close-in-Err.result c.close-in-Err.ensures
+    released c.args.conn.store c.checkpoint.new.self c.close-in-Err.result c.close-in-Err.ensures
     (still_quiet (still_quiet c.into_store-store.ensures.quiet c.rollback.ensures.quiet) q)
     (λ none db may. c.into_store-store.ensures.sound (omega (arith, q.clean, c.rollback.ensures.quiet.clean, none)) db
     (c.rollback.ensures.quiet.outcomes db (q.outcomes db may)))

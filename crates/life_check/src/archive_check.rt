@@ -1,4 +1,4 @@
-//! The check of an archive: its tables, then every row.
+//! The check of an archive: its schema first, then every row. It stops at the first error.
 
 ghost use Rattle.std.specs.Prelude.{◌≡◌, ◌≢◌, ◌↔◌, ◌∷◌, [], ℕ, pos, false, Some, IfOk, OnOk, IsTrue};
 ghost use Rattle.sqlite_value.specs.declared.value.Value.TheVariants.{Int};
@@ -28,13 +28,13 @@ use std::alloc::Global;
 /// The place of an error in an archive.
 #[derive(Clone, Copy, Debug, PartialEq, Eq)]
 pub enum Wrong {
-    /// The tables, their columns or their indexes.
+    /// The schema: the tables, their columns, checks or indexes.
     Tables,
-    /// The rows of `layout`.
+    /// The rows of `layout`, which should be one row with version 2.
     Layout,
-    /// The row that should be the deposit with the number.
+    /// The row that should be the deposit with the number; it may be missing.
     Deposit(u64),
-    /// The member or the token of the deposit with the number.
+    /// The member or the token of the deposit with the number is one that no request may have.
     DepositNames(u64),
     /// The row that should be the census with the number, a row of its tally, or its flag.
     Census(u64),
@@ -45,13 +45,13 @@ pub enum Wrong {
 pub enum CheckVerdict {
     /// The tables represent an archive with this many deposits and this many censuses.
     Sound(u64, u64),
-    /// The same but for the tallies and the flags of the censuses, which a quick check doesn't count: each has some tally that adds up.
+    /// The same for a quick check, which doesn't count: each census has some tally that adds up, and some flag.
     SoundButForCounts(u64, u64),
     /// The first error is here. [`further_errors`](crate::further_errors) lists those after it.
     NotSound(Wrong),
 }
 
-/// Whether the row is that of version 2.
+/// Whether the row is the one that names version 2, with the rowid 1.
 fn is_version(alloc: Global, row: &Row) -> Result<bool, Unavailable>
     ensures { IfOk result (λ b. IsTrue b ↔ (row.now ≡ Int (pos 1) ∷ Int (pos 2) ∷ [])) }
 {
@@ -61,7 +61,7 @@ fn is_version(alloc: Global, row: &Row) -> Result<bool, Unavailable>
     Ok(row.is_same(&written))
 }
 
-/// Whether the layout is the second.
+/// Whether the table `layout` has exactly that row.
 fn is_layout<S: Alter>(store: &mut S, alloc: Global) -> Result<bool, Unavailable>
     ensures version { IsClean (S.Store.view store.new) → IfOk result (λ b. IsTrue b → (S.Store.view store.old).trees 0 ≡ version_2) }
     ensures other { IsClean (S.Store.view store.new) → IfOk result (λ b. b ≡ false → (S.Store.view store.old).trees 0 ≢ version_2) }
@@ -82,7 +82,8 @@ fn is_layout<S: Alter>(store: &mut S, alloc: Global) -> Result<bool, Unavailable
     Ok(true)
 }
 
-/// Reads all trees of an archive's tables once: one row after another, and one tally at a time. A quick check counts no census.
+/// Reads all trees of an archive's tables once, up to the first error. It holds one row and one tally at a time. A
+/// quick check skips the counting.
 pub fn check_trees<S: Alter, W: CheckWatch>(
     store: &mut S,
     alloc: Global,
@@ -112,7 +113,7 @@ pub fn check_trees<S: Alter, W: CheckWatch>(
     Ok(CheckVerdict::Sound(deposits, censuses))
 }
 
-/// Whether the tables are those of a new archive, with the same columns, checks and indexes.
+/// Whether the schema equals the one of a new archive, which is made in memory for this.
 fn has_schema<S: Alter>(archive: &Archive<S>, alloc: Global) -> Result<bool, Unavailable>
     ensures { IfOk result (λ known. IsTrue known ↔ (archive.now.tables.schema ≡ archive_schema)) }
 {
@@ -122,7 +123,7 @@ fn has_schema<S: Alter>(archive: &Archive<S>, alloc: Global) -> Result<bool, Una
     }
 }
 
-/// Checks every row of an archive whose tables are known to be its own, and returns its store.
+/// Checks every row of an archive whose schema is right, and returns its store.
 fn check_rows<S: Alter + Drop, W: CheckWatch>(
     archive: Archive<S>,
     alloc: Global,
@@ -143,7 +144,7 @@ fn check_rows<S: Alter + Drop, W: CheckWatch>(
     (verdict, store)
 }
 
-/// The store of an archive that is not read.
+/// The store of an archive whose rows are not read, since its schema is wrong or memory ran out.
 fn store_of<S: Alter + Drop>(archive: Archive<S>) -> S
     ensures calm { IsCalm S.Store archive.store result }
     ensures numbered { IsClean (S.Store.view result) → IsTrue (S.Store.view result).is_numbered }
@@ -152,15 +153,16 @@ fn store_of<S: Alter + Drop>(archive: Archive<S>) -> S
     archive.into_trees().1
 }
 
-/// If no two deposits have one member and one token, a repeated request finds the deposit that it made; and so with censuses.
-/// A law: calling it does nothing.
+/// If no two deposits share member and token, a repeated request finds the deposit that it made. The same holds for
+/// censuses. A law: calling it does nothing.
 pub fn law_of_unique_tokens()
     ensures deposits { (A : Model) (i : ℕ) (d : Deposit) → HasUniqueTokens A → numbered A.deposits i ≡ Some d → deposit_by d.member d.token A.deposits ≡ Some (i, d) }
     ensures censuses { (A : Model) (i : ℕ) (c : Census) → HasUniqueTokens A → numbered A.censuses i ≡ Some c → census_by c.member c.token A.censuses ≡ Some (i, c) }
 {}
 
-/// Checks the tables and every row of an archive, and returns its store, unchanged. Sound tables are an archive, whoever wrote
-/// them. A quick check counts no census, and takes about as long as one reading of the deposits.
+/// Checks the schema and every row of an archive, and returns its store unchanged. Sound tables are an archive,
+/// whichever program wrote them. A quick check skips the counting, and takes about as long as reading the deposits
+/// once.
 pub fn check<S: Alter + Drop, W: CheckWatch>(
     archive: Archive<S>,
     alloc: Global,

@@ -1,7 +1,7 @@
 use Rattle.std.proofs.Common.{arith}
 use Rattle.sqlite_trees.specs.View.{IsClean}
 use Rattle.life_check.proofs.SoundLemmas.{ok_sound, on_ok_then}
-use Rattle.life_check.proofs.judging.check_rows.Goals as goal
+use Rattle.life_check.proofs.archive_check.check_rows.Goals as goal
 
 pub returns-clause-sound : goal.returns-clause-sound
 returns-clause-sound g c clean schema =

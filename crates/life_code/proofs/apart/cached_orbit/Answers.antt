@@ -1,7 +1,7 @@
 use Rattle.std.proofs.Common.{IfSome, subst}
 use Rattle.life_code.specs.ApartState.{IsOrbit}
 use Rattle.life_code.proofs.ApartParts.{known_more}
-use Rattle.life_code.proofs.apart.learnt_orbit.Goals as goal
+use Rattle.life_code.proofs.apart.cached_orbit.Goals as goal
 
 pub returns-clause-known : goal.returns-clause-known
 returns-clause-known g c =

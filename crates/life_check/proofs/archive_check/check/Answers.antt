@@ -1,6 +1,6 @@
 use Rattle.life_check.proofs.WalkLemmas.{no_both}
 use Rattle.life_check.proofs.SoundLemmas.{other_tables}
-use Rattle.life_check.proofs.judging.check.Goals as goal
+use Rattle.life_check.proofs.archive_check.check.Goals as goal
 
 pub returns-in-Ok-false-clause-sound : goal.returns-in-Ok-false-clause-sound
 returns-in-Ok-false-clause-sound g c clean =

@@ -1,7 +1,8 @@
 """What members type besides the scripts: shell completions, and the commands of the documents, which print what is
-shown under them. It also checks that completions and manual pages match the help of the programs. The tests wait
-more than they work, so they run side by side with `-n 8`.
+shown under them. Completions and manual pages are made by tools/make-words. The tests wait more than they work, so
+they run side by side with `-n 8`.
 """
+import filecmp
 import os
 import re
 import shutil
@@ -16,7 +17,7 @@ from clients import check, same
 from scripts import EXAMPLES, HAUL, TOP, needs, new_folder, said
 
 pytestmark = pytest.mark.quick
-COMPLETIONS = os.path.join(TOP, "completions")
+WORDS = os.path.join(TOP, "tools", "make-words")
 DRAW = os.path.abspath(os.path.join(TOP, "crates", "life_draw", "out", "life_draw"))
 
 
@@ -28,6 +29,14 @@ def programs(program: str) -> dict[str, str]:
         if not os.access(path, os.X_OK):
             pytest.skip(f"there is no program {path}")
     return found
+
+
+@pytest.fixture(scope="module")
+def words(room: str, programs: dict[str, str]) -> str:
+    """The folder of the manual pages and completions of the programs."""
+    folder = os.path.join(room, "words")
+    same("manual pages and completions are made", said(WORDS, folder, *programs.values()), (0, "", ""))
+    return folder
 
 
 # ---- the words of the programs
@@ -68,9 +77,9 @@ TYPED: list[tuple[str, list[str]]] = [
 ]
 
 
-def test_bash(room: str) -> None:
+def test_bash(room: str, words: str) -> None:
     where = new_folder(room, "bash", {"club one.db": b"", "club.db": b"", "other.db": b""})
-    source = "".join(f". {COMPLETIONS}/{called}.bash; " for called in CALLED)
+    source = "".join(f". {words}/{called}.bash; " for called in CALLED)
     same(
         "bash knows the completions",
         said("bash", "--norc", "-c", source + f"complete -p {' '.join(CALLED)}")[1],
@@ -85,22 +94,22 @@ def test_bash(room: str) -> None:
         (["life-draw", "svg", "<", "oth"], ["other.db"]),
         (["life-haul", "--rule", "=", "B"], []),
     ]
-    for words, wanted in calls:
+    for typed, wanted in calls:
         line = (
             source + 'COMP_WORDS=("$@"); COMP_CWORD=$(($# - 1)); _${1//-/_}; '
             "[ ${#COMPREPLY[@]} = 0 ] || printf '%s\\n' \"${COMPREPLY[@]}\""
         )
-        status, printed, errors = said("bash", "--norc", "-c", line, "bash", *words, cwd=where)
+        status, printed, errors = said("bash", "--norc", "-c", line, "bash", *typed, cwd=where)
         # Each short form is where its long one is, and a program's own options are where its subcommands are.
         found = sorted(word for word in printed.splitlines() if word not in ("-h", "-V") or word in wanted)
-        wanted = sorted(wanted + ["--help", "--version"] if words[1:] == [""] and "-h" not in wanted else wanted)
-        same(f"bash completes {words}", (status, found, errors), (0, wanted, ""))
+        wanted = sorted(wanted + ["--help", "--version"] if typed[1:] == [""] and "-h" not in wanted else wanted)
+        same(f"bash completes {typed}", (status, found, errors), (0, wanted, ""))
 
 
-def test_fish(room: str) -> None:
+def test_fish(room: str, words: str) -> None:
     needs("fish")
     where = new_folder(room, "fish", {"club one.db": b"", "club.db": b"", "other.db": b""})
-    source = "".join(f"source {COMPLETIONS}/{called}.fish; " for called in CALLED)
+    source = "".join(f"source {words}/{called}.fish; " for called in CALLED)
     for line, wanted in TYPED:
         status, printed, errors = said("fish", "--no-config", "-c", f"{source}complete -C '{line}'", cwd=where)
         found = sorted(answer.split("\t")[0].replace("\\ ", " ") for answer in printed.splitlines())
@@ -118,14 +127,14 @@ zpty -d shell
 """
 
 
-def test_zsh(room: str) -> None:
+def test_zsh(room: str, words: str) -> None:
     """A word that is begun is ended by zsh as it is typed at a terminal."""
     needs("zsh")
     where = new_folder(room, "zsh", {"club.db": b"", "other.db": b""})
     new_folder(
         where,
         "start",
-        {".zshrc": f"fpath=({COMPLETIONS} $fpath); autoload -Uz compinit; compinit -u -D; print READY".encode()},
+        {".zshrc": f"fpath=({words} $fpath); autoload -Uz compinit; compinit -u -D; print READY".encode()},
     )
     for line, ended in (
         ("life de", "life deposit "),
@@ -146,58 +155,44 @@ def test_zsh(room: str) -> None:
         check(f"zsh completes {line!r}", heard)
 
 
-# Edits of the help of a program, and which of the files that are made of it each changes.
+# Edits of the help of a program, and which of its files each changes.
 EDITS = [
-    ("life", "s/from 1 to 65535/from 1 to 65534/", ["docs/life.1", "completions/_life", "completions/life.fish"]),
-    (
-        "life",
-        "s/bad-count,/bad-counts,/",
-        ["docs/life.1", "completions/life.bash", "completions/_life", "completions/life.fish"],
-    ),
-    (
-        "life",
-        "s/--port/--gate/",
-        ["docs/life.1", "completions/life.bash", "completions/_life", "completions/life.fish"],
-    ),
-    (
-        "life-draw",
-        "s/as an SVG document/as SVG/",
-        ["docs/life-draw.1", "completions/_life-draw", "completions/life-draw.fish"],
-    ),
-    (
-        "life-draw",
-        "s/--help/--aid/",
-        ["docs/life-draw.1", "completions/life-draw.bash", "completions/_life-draw", "completions/life-draw.fish"],
-    ),
-    ("life-haul", "s/from 1 to 1000000/from 1 to 999999/", ["docs/life-haul.1", "completions/_life-haul"]),
-    (
-        "life-haul",
-        "s/--rule/--law/",
-        ["docs/life-haul.1", "completions/life-haul.bash", "completions/_life-haul", "completions/life-haul.fish"],
-    ),
+    ("life", "s/from 1 to 65535/from 1 to 65534/", "_life life.1 life.fish"),
+    ("life", "s/bad-count,/bad-counts,/", "_life life.1 life.bash life.fish"),
+    ("life", "s/--port/--gate/", "_life life.1 life.bash life.fish"),
+    ("life-draw", "s/as an SVG document/as SVG/", "_life-draw life-draw.1 life-draw.fish"),
+    ("life-draw", "s/--help/--aid/", "_life-draw life-draw.1 life-draw.bash life-draw.fish"),
+    ("life-haul", "s/from 1 to 1000000/from 1 to 999999/", "_life-haul life-haul.1"),
+    ("life-haul", "s/--rule/--law/", "_life-haul life-haul.1 life-haul.bash life-haul.fish"),
 ]
 
 
-def test_words_of_help(room: str, programs: dict[str, str]) -> None:
-    """The manual pages and the completions are those of the help, and of another help they are not."""
-    made = os.path.join(TOP, "tools", "make-words")
-    same("words are made of the help", said(made, *programs.values(), "--check"), (0, "", ""))
+def test_words_of_help(room: str, programs: dict[str, str], words: str) -> None:
+    """Another help gives other manual pages and completions, and only of that program."""
+    names = sorted(form.format(called) for called in CALLED for form in ("{}.1", "{}.bash", "_{}", "{}.fish"))
+    same("the files of the programs", sorted(os.listdir(words)), names)
     for called, edit, differing in EDITS:
-        other = os.path.join(room, f"other-{called}")
+        other, changed = os.path.join(room, f"other-{called}"), os.path.join(room, f"words-of-other-{called}")
         with open(other, "w", encoding="utf-8") as text:
             text.write(
                 f"#!/usr/bin/env bash\n(exec -a {called} '{programs[called]}' \"$@\") 2>&1 | sed '{edit}' >&2\nexit 2\n"
             )
         os.chmod(other, 0o755)
-        wanted = "".join(f"make-words: {name} differs from the help: run tools/make-words\n" for name in differing)
-        same(
-            f"words of another help, by {edit}",
-            said(made, *(programs | {called: other}).values(), "--check"),
-            (1, wanted, ""),
-        )
+        same(f"{edit}: words are made", said(WORDS, changed, *(programs | {called: other}).values()), (0, "", ""))
+        _, different, missing = filecmp.cmpfiles(words, changed, names, shallow=False)
+        same(f"{edit}: files that differ", (" ".join(sorted(different)), missing), (differing, []))
 
 
-def test_manual(programs: dict[str, str]) -> None:
+def test_words_without_programs(room: str) -> None:
+    """tools/make-words takes the programs of its clone, and says if none is built."""
+    clone = os.path.join(room, "clone")
+    os.makedirs(os.path.join(clone, "tools"))
+    made = shutil.copy(WORDS, os.path.join(clone, "tools"))
+    wanted = (1, "", "make-words: no program is built: ./life --build\n")
+    same("no program is built", said(made, os.path.join(clone, "words")), wanted)
+
+
+def test_manual(programs: dict[str, str], words: str) -> None:
     """The manual pages are read without a warning, and have the words and the versions of the programs."""
     needs("man")
     for called, lines in (
@@ -212,7 +207,7 @@ def test_manual(programs: dict[str, str]) -> None:
             ],
         ),
     ):
-        page = os.path.join(TOP, "docs", f"{called}.1")
+        page = os.path.join(words, f"{called}.1")
         status, printed, errors = said(
             "man", "--warnings", "-l", page, env=os.environ | {"MANWIDTH": "140", "LC_ALL": "C"}
         )
@@ -237,7 +232,7 @@ def test_manual(programs: dict[str, str]) -> None:
         )
 
 
-def test_shellcheck() -> None:
+def test_shellcheck(words: str) -> None:
     needs("shellcheck")
     scripts = os.path.join(EXAMPLES, "scripts")
     paths = [os.path.join(scripts, name) for name in sorted(os.listdir(scripts)) if name != "plot-haul"]
@@ -245,7 +240,7 @@ def test_shellcheck() -> None:
     for called in CALLED:
         same(
             f"shellcheck of {called}.bash",
-            said("shellcheck", "-s", "bash", os.path.join(COMPLETIONS, f"{called}.bash")),
+            said("shellcheck", "-s", "bash", os.path.join(words, f"{called}.bash")),
             (0, "", ""),
         )
 
@@ -262,15 +257,15 @@ WITHDRAWN = [
 ]
 # What a command of a page has in it that a test can't type: keys, and what belongs to a shell or a machine of one's
 # own.
-NEEDS_MORE = re.compile("<tab>|--port$|completions|deploy/|man -l|--help|8081")
+NEEDS_MORE = re.compile("<tab>|--port$|make-words|deploy/|man -l|--help|8081")
 # The pages whose commands are typed, how many there are at least, and how many are not typed. Each is begun in a folder
 # of its own.
 TYPED_PAGES = [
     ("README.md", 9, 0),
-    ("docs/COMMANDS.md", 20, 1),
-    ("docs/DEFINITIONS.md", 32, 0),
+    ("docs/COMMANDS.md", 19, 1),
+    ("docs/DEFINITIONS.md", 25, 0),
     ("docs/API.md", 4, 0),
-    ("docs/GUIDE.md", 34, 0),
+    ("docs/GUIDE.md", 33, 0),
 ]
 
 

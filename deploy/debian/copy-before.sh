@@ -45,7 +45,7 @@ before_upgrade() {
   [ -x /usr/lib/life/life-copy ] && [ "${LIFE_UPGRADE_WITHOUT_COPY:-}" != yes ] || return 0
   [ "$(cat /run/life.copied 2> /dev/null)" != "$(this_run)" ] || return 0
   if ! copy_before "$1"; then
-    echo "life: the archive could not be copied, so nothing is upgraded. Fix the problem above. If you have made a copy yourself, use" >&2
+    echo "life: the archive could not be copied, so the upgrade stops. Fix the problem above. If you have made a copy yourself, use" >&2
     echo "life: LIFE_UPGRADE_WITHOUT_COPY=yes apt-get install with both packages" >&2
     exit 1
   fi

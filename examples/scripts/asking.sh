@@ -156,7 +156,7 @@ refusal() {
     token-reused) echo 'token-reused: the token of this request was already used for something else' ;;
     out-of-limit) echo 'out-of-limit: a generation is 0 to 2048, a limit 1 to 2048' ;;
     full) echo 'full: the archive has no room for more' ;;
-    unavailable) echo 'unavailable: the archive could not do it now; run the same command again, nothing is stored twice' ;;
+    unavailable) echo 'unavailable: the archive could not do it now; run the same command again: each request is stored only once' ;;
     no-such-page) echo 'no-such-page: the URL does not lead to an archive, such as http://localhost:8080' ;;
     password) echo 'password: the club knows its members by passwords; write yours into ~/.netrc' ;;
     *) echo "$1" ;;

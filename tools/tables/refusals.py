@@ -148,7 +148,7 @@ def script_sentences(refusals: List[Refusal]) -> List[str]:
         *archive,
         "};",
         "",
-        "/** What the gateway says in place of the archive, and what comes from no reply at all. */",
+        "/** The gateway's own refusals, and the one if no reply comes at all. */",
         "export const GATEWAY = {",
         *gateway,
         "};",

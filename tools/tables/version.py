@@ -12,9 +12,6 @@ PLACES = {
     "docs/OPERATING.md": [("life_", "_amd64"), ("life-gateway_", "_all"), ("life-", "-x86_64-linux")],
     "docs/life-restore.8": [('"life ', '"')],
     "docs/life-index.8": [('"life ', '"')],
-    "docs/life.1": [('"life ', '"')],
-    "docs/life-draw.1": [('"life\\-draw ', '"')],
-    "docs/life-haul.1": [('"life\\-haul ', '"')],
     "tests/debian.py": [('VERSION = "', '"')],
     "tests/cases/words/version.stdout": [("life ", "\n")],
 }

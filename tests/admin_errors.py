@@ -60,7 +60,7 @@ MISTAKES = (
     Mistake("the power is cut", cuts_the_power, ""),
     Mistake("a configuration is interrupted", interrupts_a_configuration, "the next life-configure does the rest"),
     Mistake("the packages are removed and installed again", removes_the_packages, "life-restore|Removing life"),
-    Mistake("an upgrade can make no copy", upgrades_without_a_copy, "nothing is upgraded"),
+    Mistake("an upgrade can make no copy", upgrades_without_a_copy, "the upgrade stops"),
     Mistake("an upgrade is interrupted", interrupts_an_upgrade, ""),
     Mistake("an upgrade is killed while it makes the copy", kills_an_upgrade, ""),
     Mistake("an upgrade over what was changed by hand", upgrades, "was changed by hand and stays"),

@@ -52,7 +52,7 @@ def upgrades_without_a_copy(debian: Debian) -> None:
         debian.shell(mend)
         check(
             f"no upgrade if {name}: {done.stderr[-300:]}",
-            done.returncode != 0 and "nothing is upgraded" in done.stdout + done.stderr and is_old(debian, VERSION),
+            done.returncode != 0 and "the upgrade stops" in done.stdout + done.stderr and is_old(debian, VERSION),
         )
     done = debian.run(
         "bash",

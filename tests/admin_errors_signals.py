@@ -8,6 +8,8 @@ import time
 import ledger
 from debian import ARCHIVE, COPIES, GLIDER, KEPT_MONTHS, LATER, LATER_MONTHS, SETTINGS, SITE, VERSION, Debian
 from debian import (
+    WITHOUT_TLS,
+    WITH_TLS,
     alarms,
     change_settings,
     configured,
@@ -233,21 +235,17 @@ def interrupts_a_configuration(debian: Debian) -> None:
     kill that is so after the next life-configure.
     """
     chance, words = random.Random(SEED), ["python3", "-c", STEPPED, "/tmp/steps"]
-    good = {"TLS": "no", "LISTEN": "80", "LISTEN_ALSO": "[::]:80"}
     debian.run(*words, "0", "0", "/etc", "/usr/lib/life/life-configure")
     for case in range(CONFIGURATIONS):
         change_settings(
-            debian, **good, READS=f"{40 + case}r/s", WATCH_SECONDS=100 + case, METRICS_PORT=("", "8404")[case % 2]
+            debian,
+            **WITHOUT_TLS,
+            READS=f"{40 + case}r/s",
+            WATCH_SECONDS=100 + case,
+            METRICS_PORT=("", "8404")[case % 2],
         )
         if case % 3 == 2:
-            change_settings(
-                debian,
-                TLS="yes",
-                LISTEN="443",
-                LISTEN_ALSO="[::]:443",
-                TLS_CERTIFICATE="/srv/none.pem",
-                TLS_KEY="/srv/none.key",
-            )
+            change_settings(debian, **WITH_TLS, TLS_CERTIFICATE="/srv/none.pem", TLS_KEY="/srv/none.key")
         name, step = NAMES[case % 4], chance.randint(1, 70)
         done = debian.run(
             *words,
@@ -264,7 +262,7 @@ def interrupts_a_configuration(debian: Debian) -> None:
         )
         if name != "KILL":
             taken(debian, line)
-        change_settings(debian, **good)
+        change_settings(debian, **WITHOUT_TLS)
         again = debian.run("life-configure")
         check(
             f"{line}: the next one: {again.stderr}",

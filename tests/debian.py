@@ -23,6 +23,9 @@ VERSION = "1.1.0"
 LATER, LATEST = f"{VERSION}+later", f"{VERSION}+latest"
 # A line of the settings, and what the package LATER has in its place.
 KEPT_MONTHS, LATER_MONTHS = "KEEP_MONTHS=12\n", "KEEP_MONTHS=13\n"
+# Settings of a site without and with TLS.
+WITHOUT_TLS = {"TLS": "no", "LISTEN": "80", "LISTEN_ALSO": "[::]:80", "REDIRECT": "", "REDIRECT_ALSO": ""}
+WITH_TLS = {"TLS": "yes", "LISTEN": "443", "LISTEN_ALSO": "[::]:443", "REDIRECT": "80", "REDIRECT_ALSO": "[::]:80"}
 ARCHIVE, COPIES, SITE, SETTINGS = (
     "/var/lib/life/club.db",
     "/var/backups/life",

@@ -20,8 +20,8 @@ from life_operate.settings import BadSetting
 
 folder, port = sys.argv[2:4]
 loading.ENABLED_SITE = site = f"{folder}/nginx.conf"
-loading.NGINX_READ, loading.TAKEN_WITHIN = f"{folder}/nginx.read", 3
-loading.HAPROXY, loading.HAPROXY_READ = f"{folder}/haproxy.cfg", f"{folder}/haproxy.read"
+loading.READ = {loading.NGINX: f"{folder}/nginx.read", loading.GATEWAY: f"{folder}/haproxy.read"}
+loading.HAPROXY, loading.TAKEN_WITHIN = f"{folder}/haproxy.cfg", 3
 try:
     loading.load([], {"LISTEN": f"127.0.0.1:{port}", "HOST": "", "TLS": "no"}, site)
 except BadSetting as fault:
@@ -32,10 +32,9 @@ cd "$(dirname "$0")/.."
 case $* in
   *=ActiveState*life-gateway*) cat haproxy.state ;;
   *=ActiveState*) echo active ;;
-  *=ActiveEnterTimestamp*) echo @0 ;;
-  *=MainPID,*) cat pid moment ;;
   *=MainPID*) cat pid ;;
-  "reload nginx.service") date +%s%N > moment; exec bin/nginx -s reload ;;
+  *=ExecStart*nginx*) cat start ;;
+  "reload nginx.service") exec bin/nginx -s reload ;;
 esac
 """
 LOADED_NGINX = """{user}
@@ -87,7 +86,7 @@ class Loaded:
         write(os.path.join(folder, "bin", "nginx"), f"#!/bin/sh\n{line}\n", 0o755)
         self.write_nginx(8192, 20000)
         write(os.path.join(folder, "pages", "index.html"), "a page")
-        for name in ("moment", "haproxy.cfg"):
+        for name in ("haproxy.cfg", "start"):
             write(os.path.join(folder, name), "")
         write(os.path.join(folder, "haproxy.state"), "inactive")
         self.certify()

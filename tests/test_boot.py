@@ -27,6 +27,8 @@ from debian import (
     LATEST,
     SENDMAIL,
     VERSION,
+    WITHOUT_TLS,
+    WITH_TLS,
     Debian,
     Packages,
     alarms,
@@ -47,6 +49,7 @@ from clients import HERE, certify, check, same
 from admin_errors import AFTER_AN_OLDER_COPY, MISTAKES, Mistake, try_mistake
 from admin_errors_files import OLDER_COPY
 from walks import drawn
+from drifts import CERTIFICATE, DRIFTS, EXCHANGE, KEY, RUNS, Drift
 from debian_walks import WEIGHT_OF, fault_of_walk
 
 pytestmark = pytest.mark.full
@@ -711,9 +714,7 @@ def test_renewal(debian: Debian) -> None:
         )
 
     certify(debian.path(cert), debian.path(key), "first.example")
-    plain = {"TLS": "no", "LISTEN": "80", "LISTEN_ALSO": "[::]:80", "REDIRECT": "", "REDIRECT_ALSO": ""}
-    secure = {"TLS": "yes", "LISTEN": "443", "LISTEN_ALSO": "[::]:443", "REDIRECT": "80", "REDIRECT_ALSO": "[::]:80"}
-    done = configured(debian, **secure, TLS_CERTIFICATE=cert, TLS_KEY=key)
+    done = configured(debian, **WITH_TLS, TLS_CERTIFICATE=cert, TLS_KEY=key)
     check(f"TLS by settings: {done.stderr}", done.returncode == 0 and until(lambda: given() == ["first.example"]))
     check("plain HTTP is sent on", until(lambda: curl(debian, "/deposits/1")[0] == "301"))
     certify(debian.path(cert), debian.path(key), "second.example")
@@ -729,7 +730,7 @@ def test_renewal(debian: Debian) -> None:
     check("the new certificate after the hook", hook.returncode == 0 and until(lambda: given() == ["second.example"]))
     check(
         "without TLS again",
-        configured(debian, **plain).returncode == 0
+        configured(debian, **WITHOUT_TLS).returncode == 0
         and until(lambda: curl(debian, "/deposits/1") == ("200", pattern(1))),
     )
 
@@ -748,6 +749,38 @@ def test_new_proxy(debian: Debian) -> None:
     debian.shell(f"systemctl stop {unit}; {new}")
     same("a stopped one", state(debian, unit), "inactive")
     debian.shell(f"systemctl start {unit}")
+
+
+@pytest.fixture(scope="class")
+def secured(debian: Debian) -> Iterator[None]:
+    """The site with TLS, and another certificate for it. Later tests have the site without TLS."""
+    if not shutil.which("openssl"):
+        pytest.skip("openssl is not installed, so there is no certificate")
+    for name in ("served", "second"):
+        certify(debian.path(f"/srv/{name}.pem"), debian.path(f"/srv/{name}.key"), f"{name}.example")
+    same("TLS by settings", configured(debian, **WITH_TLS, TLS_CERTIFICATE=CERTIFICATE, TLS_KEY=KEY).returncode, 0)
+    yield
+    same("without TLS again", configured(debian, **WITHOUT_TLS).returncode, 0)
+    check("as before", until(lambda: curl(debian, "/deposits/1") == ("200", pattern(1))))
+
+
+@pytest.mark.usefixtures("secured")
+class TestDrifts:
+    """Whatever differs from what runs is said and loaded, once."""
+
+    @pytest.mark.parametrize("drift", [pytest.param(one, id=one.name) for one in DRIFTS])
+    def test_drift(self, debian: Debian, drift: Drift) -> None:
+        settled = until(lambda: debian.run("life-configure").stdout == "changed: nothing\n")
+        check(f"{drift.name}: nothing differs before", settled)
+        debian.shell(f"{EXCHANGE}\n{drift.change}")
+        done = debian.run("life-configure")
+        said = done.stdout + done.stderr
+        check(f"{drift.name}: it is said: {said}", re.search(drift.said, said) and "changed: nothing" not in said)
+        debian.shell(f"{RUNS}\n" + drift.runs.replace("; ", "\n"))
+        same(f"{drift.name}: a second time", debian.run("life-configure").stdout, "changed: nothing\n")
+        debian.shell(drift.undo)
+        same(f"{drift.name}: afterwards", debian.run("life-configure").returncode, 0)
+        check(f"{drift.name}: TLS is served", until(lambda: curl(debian, "/deposits/1")[0] == "301"))
 
 
 @pytest.mark.usefixtures("first_copy")

@@ -331,7 +331,7 @@ def test_not_restored(folder: str) -> None:
     os.remove(os.path.join(club.web, "cache"))
     answer = club.script("life-restore", copy, prefix=small_disk(2 * os.path.getsize(club.archive)))
     check("no restore on a disk without room", is_error("life-restore", answer, "has room for"))
-    check("nothing to finish", is_error("life-restore", club.restore(), "nothing was interrupted"))
+    check("nothing to finish", is_error("life-restore", club.restore(), "no restore was interrupted"))
     check(
         f"the service was not stopped: {club.called()}",
         club.called() == [] and content(club.archive) == before and club.left_over() == [] and club.asides() == [],
@@ -454,7 +454,7 @@ def test_new_archives(folder: str) -> None:
     before = content(club.archive)
     check(
         "not a second time",
-        is_error("life-new-archive", club.script("life-new-archive"), "exists and was left alone")
+        is_error("life-new-archive", club.script("life-new-archive"), "exists and was not changed")
         and content(club.archive) == before,
     )
     club.copy()

@@ -23,6 +23,7 @@ import pytest
 import fake_systemd
 from archives import new_archive
 from clients import BLOCKS, GLIDER, GLIDER_TEXT, HERE, Server, check, deposit, exchanged, same
+from debian import until
 from fake_systemd import HASH
 from loaded import AGAIN, Loaded, content, write
 
@@ -252,7 +253,7 @@ def test_not_serving(folder: str) -> None:
         same(
             "at the check ten minutes later",
             place.age(port=port),
-            (1, f"life-age: life.service runs, but does not serve: nothing listens at port {port}\n"),
+            (1, f"life-age: life.service runs, but does not serve: no program listens at port {port}\n"),
         )
         listener.listen()
         same("it serves", (place.age(port=port)[0], os.path.exists(seen)), (0, False))
@@ -504,7 +505,7 @@ def test_withdrawn_list(folder: str) -> None:
         ("ann:of-ann\n", "line 1: nginx does not know the form of the hash of ann"),
         ("ann\n", "line 1: nginx does not know the form of the hash of ann"),
         ("A:\nB:\nC:\nD:\n", "; and 1 more"),
-        ("# None.\n", "it has no members, so nobody can deposit"),
+        ("# None.\n", "it has no members, so no one can deposit"),
     ],
     ids=["well", "capital", "blank", "mark", "long", "text", "name", "many", "empty"],
 )
@@ -714,9 +715,13 @@ def test_own_lines(loaded: Loaded) -> None:
             check(f"{turn}: {err}", (status, out) == (1, AGAIN) and err.startswith("nginx keeps the old site"))
     same("the old lines count", (loaded.asked("127.0.0.9"), loaded.asked("127.0.0.8")), (403, 200))
     loaded.own_line("deny 127.0.0.9;")
-    same("the lines of before", loaded.load(), (0, AGAIN, ""))
-    write(os.path.join(loaded.folder, "moment"), "somebody else has had nginx load its files")
-    same("after another load", [loaded.load()[1], loaded.load()[1]], [AGAIN, ""])
+    same("nginx still has the lines of before", loaded.load(), (0, "", ""))
+    loaded.own_line("")
+    subprocess.run([os.path.join(loaded.folder, "bin", "nginx"), "-s", "reload"], check=True, timeout=30)
+    check("somebody else has had nginx load other lines", until(lambda: loaded.asked("127.0.0.9") == 200))
+    loaded.own_line("deny 127.0.0.9;")
+    same("the lines of before again", [loaded.load()[1], loaded.load()[1]], [AGAIN, ""])
+    same("they count", loaded.asked("127.0.0.9"), 403)
 
 
 def test_room_for_connections(loaded: Loaded) -> None:
@@ -745,6 +750,19 @@ def test_renewed_certificate(loaded: Loaded) -> None:
     status, out, err = loaded.load()
     check(f"a key that does not fit: {err}", (status, out) == (1, "") and "key values mismatch" in err)
     same("the second one is given out", loaded.certificate(), second)
+
+
+def test_replaced_program(loaded: Loaded) -> None:
+    """A program that another one has replaced, or that is gone from the disk, is named each time."""
+    loaded.load()
+    start, other = (os.path.join(loaded.folder, name) for name in ("start", "other"))
+    shutil.copy("/bin/true", other)
+    write(start, f"{{ path={other} ; argv[]={other} }}")
+    restart = "nginx or one of its libraries was replaced: systemctl restart nginx.service\n"
+    same("another program", [loaded.load(), loaded.load()], [(0, "", restart)] * 2)
+    os.remove(other)
+    missing = f"nginx.service runs {other}, which is missing now: install it again\n"
+    same("no program", [loaded.load(), loaded.load()], [(1, "", missing)] * 2)
 
 
 def test_failed_proxy(loaded: Loaded) -> None:

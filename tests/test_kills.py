@@ -123,7 +123,7 @@ def killed(club: Club, name: str) -> str:
     good = (
         (status == 0 and "was interrupted, and is" in said)
         if interrupted
-        else (status == 1 and "nothing was interrupted" in err)
+        else (status == 1 and "no restore was interrupted" in err)
     )
     check(f"{name}: the next command: {status} {said} {err}", good)
     return f"{name}; then {said}"
@@ -183,7 +183,7 @@ def test_kills(folder: str, word: str, said: str, wanted: Ledger, command: str) 
     )
     check(
         "a new archive beside it is refused",
-        command == "life-restore" or is_error(command, (status, out, err), "exists and was left alone"),
+        command == "life-restore" or is_error(command, (status, out, err), "exists and was not changed"),
     )
     check(
         f"the copies are {said}",

@@ -293,7 +293,7 @@ class Walk:
         word = word_for(held, self.others())
         self.interrupted("life-restore", *([word] if word else []), path)
         status, out, err = self.restore()
-        require(status == 0 or "nothing was interrupted" in err, f"life-restore: {status} {out}{err}")
+        require(status == 0 or "no restore was interrupted" in err, f"life-restore: {status} {out}{err}")
         self.club.systemctl("reset-failed")
         self.started()
         now = rows_of(self.club.archive)

@@ -1,4 +1,4 @@
-"""What the scripts that split a haul share: its arguments, its folder, and the pieces of its range."""
+"""The common part of the scripts that split a haul: its arguments, its folder, and the pieces of its range."""
 from __future__ import annotations
 
 import argparse

@@ -1,2 +1,2 @@
-"""What an administrator of a club's archive runs: copies, restores, settings and the search index. The commands beside
+"""The commands of a club's administrator: copies, restores, settings and the search index. The commands next to
 this folder call it."""

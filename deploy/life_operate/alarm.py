@@ -35,13 +35,13 @@ def output_of(*words: str) -> list[str]:
 
 
 def shown(unit: str) -> dict[str, str]:
-    """What systemd knows about how a unit ended."""
+    """The properties by which systemd describes how a unit ended."""
     lines = output_of("systemctl", "show", "--property=Result,ExecMainStatus,ExecMainCode", unit)
     return dict(line.split("=", 1) for line in lines if "=" in line)
 
 
 def reason_of(unit: str) -> str:
-    """Why a unit failed: what stopped its program from outside, or otherwise its own last line."""
+    """Why a unit failed: the signal or limit that stopped its program, or otherwise its own last line."""
     known = shown(unit)
     result, status = known.get("Result", ""), known.get("ExecMainStatus", "")
     if result in SIGNALED:
@@ -59,7 +59,7 @@ def reason_of(unit: str) -> str:
         f"--since={SAID_WITHIN}",
         f"_SYSTEMD_UNIT={unit}",
     )
-    return said[-1] if said else "the unit printed nothing"
+    return said[-1] if said else "the unit had no output"
 
 
 def journal(priority: str, *lines: str) -> None:
@@ -79,7 +79,7 @@ def journal_of(unit: str, line: str) -> None:
 
 
 def mail(address: str, subject: str, *parts: str) -> None:
-    """Sends mail, if there is a sendmail. Nobody knows whether it arrives, so the journal has every alarm too."""
+    """Sends mail, if there is a sendmail. It may not arrive, so the journal has every alarm too."""
     sendmail = os.environ.get("SENDMAIL", "/usr/sbin/sendmail")
     if os.access(sendmail, os.X_OK):
         text = f"To: {address}\nSubject: {subject}\n\n" + "\n\n".join(parts) + "\n"
@@ -126,7 +126,7 @@ def end(unit: str, address: str) -> None:
     os.remove(told)
     subject = f"life on {platform.node()}: {unit} has recovered"
     journal("crit", subject)
-    mail(address, subject, "Nothing has to be done.")
+    mail(address, subject, "You need not do anything.")
 
 
 def main() -> None:

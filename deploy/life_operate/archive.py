@@ -170,11 +170,11 @@ def locked(path: str) -> BinaryIO | None:
     return file
 
 
-# ---- what is in an archive
+# ---- the contents of an archive
 
 
 class Database:
-    """A database, and the name under which messages mention it. What SQLite can't do is an error with that name."""
+    """A database, and the name under which messages mention it. An error of SQLite is one with that name."""
 
     def __init__(self, name: str, address: str) -> None:
         self.name = name
@@ -184,7 +184,7 @@ class Database:
             raise self.refused(fault) from fault
 
     def first_row(self, query: str, *values: object) -> tuple[Any, ...]:
-        """The first row, or an empty tuple if the query finds nothing."""
+        """The first row, or an empty tuple if there is none."""
         try:
             return self.opened.execute(query, values).fetchone() or ()
         except sqlite3.Error as fault:
@@ -205,7 +205,7 @@ def fold(new: str, archive: str) -> None:
 
 
 class Contents(Database):
-    """The content of an archive that is one file. The file is only read; a log beside it is ignored."""
+    """The content of an archive that is one file. The file is only read; a log next to it is ignored."""
 
     def __init__(self, path: str, name: str) -> None:
         super().__init__(name, pathlib.Path(path).as_uri() + "?mode=ro&immutable=1")
@@ -235,7 +235,7 @@ class Contents(Database):
         return self.text() + (f", the first deposit by {first[0]!a}" if first else "")
 
     def newest(self) -> tuple[str, bytes]:
-        """The route of the newest deposit, and what the program has to answer."""
+        """The route of the newest deposit, and the answer that the program has to give."""
         number = self.counts["deposits"]
         return (
             (f"/deposits/{number}", self.row("deposits", number)[2])
@@ -246,7 +246,7 @@ class Contents(Database):
 
 @functools.cache
 def missing_rows(new: Contents, there: Contents) -> list[str]:
-    """What the existing archive has and the new one lacks: rows, or the first row that is another one. All rows are
+    """The rows that the existing archive has and the new one lacks, or the first one that differs. All rows are
     compared, which takes seconds for a million."""
     found = [f"fewer {table}" for table in TABLES if new.counts[table] < there.counts[table]]
     for table, (one, _) in TABLES.items():
@@ -336,7 +336,7 @@ class Opened:
         assert out and errors, "both are pipes"
         if not (select.select([out], [], [], OPENED_WITHIN)[0] and out.readline()):
             self.process.kill()
-            said = errors.read().decode().splitlines() or ["it printed nothing"]
+            said = errors.read().decode().splitlines() or ["it had no output"]
             raise Refused(f"{name} can't be opened by the program: {said[0]}")
         return answered(self.port, route)
 
@@ -354,7 +354,7 @@ def opened_by_program(program: str, path: str) -> Iterator[Opened]:
 
 
 def asked_of_program(program: str, path: str, name: str, route: str, ends: bool = False) -> tuple[int, bytes]:
-    """What the program answers with a file open; with `ends` it also has to succeed after that. Anybody on the machine
+    """The program's answer with a file open; with `ends` it also has to succeed after that. Anybody on the machine
     may use up its one connection, so a question without an answer is asked once more."""
     for last in (False, True):
         with opened_by_program(program, path) as opened:
@@ -381,7 +381,7 @@ def checked_by_program(program: str, *words: str) -> tuple[int, str, str]:
 
 def try_by_program(program: str, path: str, contents: Contents) -> str:
     """Has the program open a throw-away copy, reads its newest deposit, and has the program look at every row, without
-    counting censuses; returns what it says of the first wrong row, or ''. The opening comes first: it migrates an
+    counting censuses; returns its line about the first wrong row, or ''. The opening comes first: it migrates an
     archive of an earlier schema version.
     """
     route, wanted = contents.newest()
@@ -396,5 +396,5 @@ def made_by_program(program: str, path: str) -> None:
     if asked_of_program(program, path, path, "/deposits/after/0", ends=True) != (200, b'{"deposits":[]}'):
         raise Refused(f"the program created no archive at {path}")
     if has_commit(path):
-        raise Refused(f"{path}-wal contains what should be in {path}")
+        raise Refused(f"the rows of the archive are in {path}-wal, not in {path}")
     os.remove(path + "-wal")

@@ -1,4 +1,4 @@
-"""nginx's cache, which still has what a number named before a restore. It belongs to nginx's user; no other user
+"""nginx's cache, which still has the replies from before a restore. It belongs to nginx's user; no other user
 follows links in it."""
 import contextlib
 import errno
@@ -35,7 +35,7 @@ def site_and_cache(folder: str) -> Iterator[tuple[int, int] | None]:
             found = None
         except OSError as fault:
             if fault.errno in (errno.ELOOP, errno.ENOTDIR):
-                raise Refused(f"{folder}/cache is a link or not a folder, so nothing was removed") from fault
+                raise Refused(f"{folder}/cache is a link or not a folder, and was not emptied") from fault
             raise
         yield found
 
@@ -76,7 +76,7 @@ def move_away(folder: str) -> int:
 
 
 def remove_old(folder: str) -> None:
-    """Removes what was moved away, including what a killed command left."""
+    """Removes the folders that were moved away, also by killed commands."""
     with site_and_cache(folder) as found:
         if found is None:
             return

@@ -1,4 +1,4 @@
-"""What the commands that replace an archive share: their worker, and what the helper does for it."""
+"""The common part of the commands that replace an archive: their worker, and the helper's actions for it."""
 import functools
 import subprocess
 import sys
@@ -39,7 +39,7 @@ def systemctl(word: str) -> tuple[str, None]:
 
 
 def actions(folder: str, paths: list[str]) -> dict[str, Action]:
-    """What a helper does: systemctl, the cache below a folder, and opening files with these paths."""
+    """The actions of a helper: systemctl, the cache below a folder, and opening files with these paths."""
 
     def of_cache(function: Callable[[str], object]) -> tuple[str, None]:
         return str(cache.as_owner(function, folder)), None
@@ -81,5 +81,5 @@ def run(name: str, path: str, paths: list[str], worker: Worker) -> None:
     except Refused as fault:
         sys.exit(f"{name}: {fault}")
     if status < 0:
-        sys.exit(f"{name}: killed by signal {-status}; life-restore without a copy finishes or undoes what it began")
+        sys.exit(f"{name}: killed by signal {-status}; life-restore without a copy finishes or undoes its work")
     sys.exit(status)

@@ -4,17 +4,19 @@
 
 Units that differ from those of the package are written into /etc/systemd/system. If the gateway is installed, nginx's
 site, HAProxy's configuration and a file for logrotate go to their places. A file that nginx, HAProxy or logrotate
-refuses is not kept. A file that was changed by hand stays, and the new one is put beside it as FILE.dpkg-dist; with
---replace it is moved to FILE.dpkg-old instead.
+refuses is not kept. A file that was changed by hand stays, and the new one is written next to it as FILE.dpkg-dist;
+with --replace it is moved to FILE.dpkg-old instead.
 
-Unless --files-only is given, everything that is newer than what runs is then loaded. For nginx that is whatever it
-reads: the site, the club's own lines, other sites, certificates. nginx is asked whether it has accepted the site: it
-refuses some changes only while it runs. FOLDER replaces /.
+Unless --files-only is given, everything that differs from the running state is then loaded. For nginx that is whatever
+it reads: the site, the club's own lines, other sites, certificates. nginx is asked whether it has accepted the site: it
+refuses some changes only while it runs. A service whose program was replaced is restarted; for nginx, which may serve
+other sites, a line asks for that. "changed: nothing" means that there is no difference. FOLDER replaces /.
 
 Each file is for everybody to read and for root to change, whatever root's umask is.
 
 A signal ends it after the current file, which is then wholly the old one or the new one; the next life-configure does
-the rest. After a kill it first puts back what nginx, HAProxy or logrotate had not yet accepted.
+the rest. After a kill it first puts back the old version of files that nginx, HAProxy or logrotate had not yet
+accepted.
 """
 import argparse
 import contextlib
@@ -38,7 +40,7 @@ from life_operate.templates import GATEWAY, TEMPLATES, filled_templates
 # The first line of a file that life-configure wrote, with the digest of the rest. Release 1.0.0 wrote no digest.
 MARK = "# Made by life-configure from /etc/life/settings"
 MARKED = re.compile(re.escape(MARK) + r"(?:, digest ([0-9a-f]{64}))?\.\n")
-# A file that is being written, and what was there until its program has taken the new one. logrotate passes over both.
+# A file that is being written, and the old one until its program has accepted the new one. logrotate skips both.
 NEW, BEFORE = ".dpkg-new", ".dpkg-tmp"
 # HAProxy's user reads its file, and users who may change a unit could become root.
 MODE = 0o644
@@ -94,7 +96,7 @@ def write(path: str, text: str | None) -> bool:
 
 
 def bring_back(path: str) -> None:
-    """Puts back what was there before a file that its program has not taken: it was refused, or life-configure was
+    """Puts back the old version of a file that its program has not accepted: it was refused, or life-configure was
     killed. An empty text was no file."""
     before = content(path + BEFORE)
     if before:
@@ -114,14 +116,14 @@ def marked(text: str) -> str:
 
 
 def is_ours(text: str) -> bool:
-    """Whether life-configure wrote this text and nobody has changed it since. A text from release 1.0.0 can't be
+    """Whether life-configure wrote this text and no one has changed it since. A text from release 1.0.0 can't be
     checked, and counts as such."""
     mark = MARKED.match(text)
     return mark is not None and mark[1] in (None, digest_of(text[mark.end() :]))
 
 
 def stays(path: str, text: str | None, replace: bool) -> bool:
-    """Whether a file stays because somebody has changed it. If so, the text is put beside it; if it is replaced, it is
+    """Whether a file stays because somebody has changed it. If so, the text is put next to it; if it is replaced, it is
     moved away."""
     with contextlib.suppress(FileNotFoundError):
         # Left by a life-configure that was killed.
@@ -136,8 +138,7 @@ def stays(path: str, text: str | None, replace: bool) -> bool:
         return False
     write(path + ".dpkg-dist", text)
     print(
-        f"{path} was changed by hand and stays"
-        + (f"; what the settings make of it is in {path}.dpkg-dist" if text else ""),
+        f"{path} was changed by hand and stays" + (f"; the new version is in {path}.dpkg-dist" if text else ""),
         file=sys.stderr,
     )
     return True
@@ -171,7 +172,7 @@ def put_checked(root: str, name: str, text: str, replace: bool) -> bool:
 
 
 def put_all(root: str, settings: dict[str, str], replace: bool, signals: Signals) -> list[str]:
-    """The names of what has changed. A signal waits for the end of a file."""
+    """The names of the files that have changed. A signal waits for the end of a file."""
     files = filled_templates(TEMPLATES, settings) | filled_templates(GATEWAY, settings)
     changed = []
     # HAProxy's configuration and the site come before the units, so that the units stay unchanged if one is refused.
@@ -205,14 +206,17 @@ def check(settings: dict[str, str], files_only: bool) -> None:
 
 
 def configure(words: argparse.Namespace, settings: dict[str, str], signals: Signals) -> None:
-    """Writes all files, and has what runs read them."""
+    """Writes all files, and has the running services read them."""
     with signals.held_back():
         for place in PLACES.values():
             bring_back(os.path.join(words.root, place))
     changed = put_all(words.root, settings, words.replace, signals)
-    print("changed: " + (", ".join(changed) or "nothing"), flush=True)
-    if not words.files_only and os.path.isdir("/run/systemd/system"):
-        load(changed, settings, os.path.join(words.root, PLACES["life-site.conf"]))
+    if changed:
+        print("changed: " + ", ".join(changed), flush=True)
+    loads = not words.files_only and os.path.isdir("/run/systemd/system")
+    has_loaded = loads and load(changed, settings, os.path.join(words.root, PLACES["life-site.conf"]))
+    if not changed and not has_loaded:
+        print("changed: nothing", flush=True)
 
 
 def main() -> None:

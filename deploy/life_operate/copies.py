@@ -10,14 +10,14 @@ copy, read its newest deposit, and look at every row with `life check --quick`. 
 the newest one to SECOND_PLACE, one file for each day. The third form makes the copy before an upgrade from VERSION,
 before-VERSION.db in the same folder. No rule removes that one. If the archive is missing but should exist, it refuses.
 
-A copy is made in a folder next to its place, and gets its name only when it is whole and on the disk. It must have
+A copy is made in a folder next to its place, and gets its name only when it is complete and on the disk. It must have
 everything that the copy of that name, or the club's newest copy, has: at least as many deposits and censuses, and the
-same ones. A copy is not replaced if a program has it open, or if a log beside it has a commit. If the copy fails, one
+same ones. A copy is not replaced if a program has it open, or if a log next to it has a commit. If the copy fails, one
 line on standard error says why, and the status is 1.
 
 Run by root, the second form first becomes the user of the archive, and the first form the user who owns the folder of
-COPY. If that is root, the user of ARCHIVE makes the copy in a folder next to it, and root takes its bytes: root opens
-nothing that another user may have planted.
+COPY. If that is root, the user of ARCHIVE makes the copy in a folder next to it, and root takes its bytes: root never
+opens a file that another user may have planted.
 """
 import argparse
 import contextlib
@@ -57,7 +57,7 @@ from life_operate.signals import ENDING, Interrupted, Signals, end_by, started
 
 # How many characters of a time name its day, and its month.
 DAY, MONTH = len("2026-11-26"), len("2026-11")
-# Room for the copy, what the program makes of it, and the next copy.
+# Room for the copy, the files that the program makes of it, and the next copy.
 TIMES_THE_ROOM = 3
 # How long rsync may take to end after a signal, in seconds.
 ENDS_WITHIN = 10
@@ -74,7 +74,7 @@ def locked_copy(copy: str) -> BinaryIO:
     if not (file := locked(copy)):
         raise Refused(f"{copy} was not replaced: a program has it open")
     if has_commit(copy):
-        raise Refused(f"{copy} was not replaced: {copy}-wal has what was written to it since")
+        raise Refused(f"{copy} was not replaced: {copy}-wal has rows that were written to it since")
     return file
 
 
@@ -174,8 +174,8 @@ def send(copy: str, place: str) -> None:
 
 
 def run_politely(words: list[str]) -> tuple[int, str]:
-    """The status of a program and what it wrote to standard error. If a signal ends this command, the program gets
-    SIGTERM and some time, so that it removes what it has begun."""
+    """The status of a program and its lines on standard error. If a signal ends this command, the program gets
+    SIGTERM and some time, so that it removes its unfinished files."""
     with started(words, ENDS_WITHIN) as process:
         errors = process.communicate()[1].decode(errors="replace")
     return process.returncode, errors
@@ -184,7 +184,7 @@ def run_politely(words: list[str]) -> tuple[int, str]:
 METRICS = """# HELP life_copy_time_seconds When the newest good copy was made.
 # TYPE life_copy_time_seconds gauge
 life_copy_time_seconds {moment}
-# HELP life_copy_rows What is in the newest good copy.
+# HELP life_copy_rows The rows of the newest good copy.
 # TYPE life_copy_rows gauge
 life_copy_rows{{table="deposits"}} {deposits}
 life_copy_rows{{table="censuses"}} {censuses}
@@ -254,7 +254,7 @@ def before_upgrade(settings: dict[str, str], version: str, signals: Signals) -> 
     if not os.path.lexists(archive):
         if os.listdir(folder):
             raise Refused(f"{archive} is not there, and {folder} has copies: is its disk mounted, is ARCHIVE right?")
-        return f"{archive} is not there, and there is no copy of it: there is nothing to copy"
+        return f"{archive} does not exist, and has no copies"
     copy = os.path.join(folder, f"before-{version}.db")
     if os.path.lexists(copy):
         copy = os.path.join(
@@ -298,7 +298,7 @@ def owner_of_archive(path: str) -> pwd.struct_passwd:
 
 
 class OwnFolder:
-    """What root does in a folder of its own for a copy that another user makes there: it opens what is there, and gives
+    """The steps that root does in a separate folder for a copy that another user makes there: it opens files, and gives
     the new file its name."""
 
     def __init__(self, copy: str) -> None:
@@ -320,7 +320,7 @@ class OwnFolder:
         return "", os.open(os.path.join(self.room, "new.db"), os.O_WRONLY | os.O_CREAT | os.O_EXCL, 0o600)
 
     def finish(self) -> tuple[str, int | None]:
-        # The lock ends with the function, so nobody begins to write to what is replaced.
+        # The lock lasts until the function ends, so no other process begins to write to the old file.
         holding = locked_copy(self.copy) if os.path.exists(self.copy) else None
         if (state_of(self.copy) if holding else None) != self.before:
             raise Refused(f"{self.copy} has changed meanwhile")

@@ -3,9 +3,9 @@
 The new file is checked and on the disk before anything stops. Then the steps are: stop the service, move the archive
 and its log away, move away copies that have more, empty nginx's cache, rename the new file, start the service. The
 rename decides. Before it, an error or a signal undoes every step; after it, the rest is done. So at every moment the
-archive's name has the whole old file, the whole new one, or nothing, and the service refuses to start with nothing.
+archive's name has the complete old file, the complete new one, or none, and without a file the service does not start.
 
-A journal beside the archive describes the exchange from its first step to its last. After a kill or a power cut, the
+A journal next to the archive describes the exchange from its first step to its last. After a kill or a power cut, the
 next command compares it with the files that are there, and finishes or undoes the exchange.
 """
 import contextlib
@@ -90,7 +90,7 @@ def alone(archive: str, copies: str) -> contextlib.ExitStack:
 
 
 def remove_old_rooms(folder: str, prefix: str | tuple[str, ...] = ROOMS) -> None:
-    """Removes what killed commands have left, once no command can still be using it."""
+    """Removes the files that killed commands have left, once no command can still be using it."""
     for entry in os.scandir(folder):
         # Another command may remove one meanwhile.
         with contextlib.suppress(FileNotFoundError):
@@ -121,7 +121,7 @@ def new_room(folder: str, prefix: str, signals: Signals) -> Iterator[str]:
             raise
 
 
-# ---- what is to be done
+# ---- the steps to take
 
 
 @dataclasses.dataclass
@@ -150,8 +150,8 @@ class Plan:
         return os.path.join(self.folder, self.room, "new.db")
 
     def moves(self) -> list[tuple[str, str]]:
-        """What moves away, and where to. The archive moves before its log, so that it is never in its place without its
-        log."""
+        """The files that move away, and where to. The archive moves before its log, so that it is never in its place
+        without its log."""
         away = [
             (path, os.path.join(self.folder, self.aside, os.path.basename(path)))
             for path in (self.archive, self.archive + "-wal")
@@ -194,9 +194,7 @@ def read_journal(archive: str) -> Plan | None:
     except FileNotFoundError:
         return None
     except (ValueError, TypeError) as fault:
-        raise Refused(
-            f"{path} can't be read: see what is in before-restore-.., put it back, and remove {path}"
-        ) from fault
+        raise Refused(f"{path} can't be read: put the files of before-restore-.. back, and remove {path}") from fault
 
 
 # ---- the steps
@@ -227,7 +225,7 @@ class Exchange:
         self.sync(self.plan.folder)
 
     def sync(self, *places: str) -> None:
-        """Waits until the names in these folders, and what moved away from them, are on the disk."""
+        """Waits until the names in these folders, and the files that moved away from them, are on the disk."""
         for folder in [folder for place in places for folder in (place, os.path.join(place, self.plan.aside))]:
             if os.path.isdir(folder):
                 sync(folder)
@@ -240,7 +238,7 @@ class Exchange:
         os.rename(self.plan.new, self.plan.archive)
 
     def undo(self) -> None:
-        """Brings everything back, the log before its file. What somebody else has put there meanwhile stays."""
+        """Brings everything back, the log before its file. A file that somebody else has put there meanwhile stays."""
         for there, away in reversed(self.plan.moves()):
             if os.path.lexists(away) and os.path.lexists(there):
                 say(f"{away} was left where it is: {there} is another file now")
@@ -253,7 +251,7 @@ class Exchange:
         self.start_and_forget(self.plan.serves and self.plan.ran)
 
     def finish(self) -> None:
-        """What is left to do once the new file has its name."""
+        """The steps that remain once the new file has its name."""
         sync(self.plan.folder)
         self.start_and_forget(self.plan.serves)
         # A disk may be slow, so what does not concern the service comes after its start.
@@ -278,7 +276,7 @@ class Exchange:
 
     def run(self, signals: Signals, look_again: Callable[[], bool]) -> None:
         """Does all steps up to the rename, or none; `finish` does the rest. The caller holds signals back: one that
-        came before the rename undoes everything, a later one does nothing. Once the service is stopped, `look_again`
+        came before the rename undoes everything, a later one has no effect. Once the service is stopped, `look_again`
         may refuse; it returns whether it made the new file again.
         """
         signals.check()
@@ -311,7 +309,7 @@ class Exchange:
                 held.close()
 
     def undo_and_report(self, fault: BaseException) -> None:
-        """Undoes what was done, and says so."""
+        """Undoes the steps so far, and says so."""
         try:
             self.undo()
         except (OSError, Refused) as second:
@@ -323,14 +321,14 @@ class Exchange:
         self.tidy()
 
     def tidy(self) -> None:
-        """Removes what was in the cache. That can take long; the next command removes what is left."""
+        """Removes the old content of the cache. That can take long; the next command removes the rest."""
         with contextlib.suppress(OSError, Refused):
             self.helper.ask("remove-old-cache")
 
 
 def end_interrupted(archive: str, helper: Helper, signals: Signals) -> bool:
-    """Finishes or undoes what a killed command began, and returns whether there was anything. A signal waits until that
-    is done."""
+    """Finishes or undoes the exchange of a killed command, and returns whether there was anything. A signal waits until
+    that is done."""
     plan = read_journal(archive)
     if plan:
         with signals.held_back():

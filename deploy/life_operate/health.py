@@ -6,7 +6,7 @@
 
 The status is 1, with a line on standard error, as long as one of these holds: the folder COPIES has no copy younger
 than AGE (such as 2h); the archive's file is not the one that the service has open; the service, its gateway or nginx is
-enabled, but has not been active for ten minutes; for that long nothing has listened at PORT, the service's port; the
+enabled, but has not been active for ten minutes; for that long no program has listened at PORT, the service's port; the
 disk of the archive is nearly full; the archive has nine tenths of the rows that it may have, or too many for a program
 with SIZE of memory to open it. If there is no copy at all, the last change of COPIES counts. The folder --state records
 since when a unit has not been active. --root replaces /. The other forms are for root. The second one checks a
@@ -66,7 +66,7 @@ def newest(copies: Copies) -> tuple[float, str]:
 
 
 def age_of(archive: str, folder: str, age: str) -> tuple[str, str]:
-    """The problem with the age of the newest copy, if there is one; and what is fine."""
+    """The problem with the age of the newest copy, if there is one; and the good ones."""
     try:
         moment, words = newest(Copies(archive, folder))
     except (OSError, ValueError) as fault:
@@ -115,7 +115,7 @@ def lack_of(root: str, unit: str, port: int | None) -> str:
     if not is_active(root, unit):
         return f"{unit} is enabled but not running"
     if unit == "life.service" and port and not listens(root, port):
-        return f"{unit} runs, but does not serve: nothing listens at port {port}"
+        return f"{unit} runs, but does not serve: no program listens at port {port}"
     return ""
 
 

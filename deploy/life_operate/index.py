@@ -23,7 +23,7 @@ FOLDER, which it creates if necessary:
 SUM is the beginning of the file's SHA-256 digest, so a file with a given name never changes. A block is made again if a
 row of it has changed. A block that is no longer listed stays for an hour, or goes at once if a deposit was withdrawn.
 An archive has no dates: the day is when this program first saw the row, in UTC, or that of SOURCE_DATE_EPOCH. Nothing
-about the index is proved; what it links to comes from the archive itself.
+about the index is proved; its links lead to the archive's own answers.
 
 If the copy is damaged or not an archive, all files stay as they are. If the index can't be built, one line on standard
 error says why, and the status is 1.
@@ -55,7 +55,7 @@ VERSION = 1
 BLOCK = 1000
 HEAD = "index.json"
 FEED = "feed.xml"
-# What the next run compares with. nginx does not serve it.
+# The next run compares with this. nginx does not serve it.
 ROWS = "rows.json"
 LOCK = "lock"
 IN_FEED = 50
@@ -103,7 +103,7 @@ def newest(path: str, archive: str | None) -> str:
 
 
 class Archive:
-    """The content of a copy. The file is only read; a log beside it is ignored."""
+    """The content of a copy. The file is only read; a log next to it is ignored."""
 
     def __init__(self, path: str, withdrawn: Collection[int] = ()) -> None:
         self.path = path
@@ -247,7 +247,7 @@ class Folder:
         self.rows, self.withdrawn = self.read_rows()
 
     def read_rows(self) -> tuple[dict[str, str], frozenset[int]]:
-        """What the last run wrote for this one. Without it all blocks are made again."""
+        """The notes of the last run for this one. Without it all blocks are made again."""
         try:
             with open(os.path.join(self.path, ROWS), "rb") as file:
                 found = json.load(file)
@@ -281,7 +281,7 @@ class Folder:
         return content if found and hashlib.sha256(content).hexdigest().startswith(found[2]) else None
 
     def block(self, kind: str, place: int) -> dict[str, Any] | None:
-        """A block that the list names; None if it is not there as a whole."""
+        """A block that the list names; None if it is not complete."""
         names = self.head["blocks"].get(kind, [])
         content = self.content(names[place]) if place < len(names) else None
         return json.loads(content) if content else None

@@ -1,5 +1,5 @@
-"""Before a copy takes the place of a club's archive: what the archive, its log and its copies have, and what would be
-lost."""
+"""Before a copy takes the place of a club's archive: the rows of the archive, its log and its copies, and those that
+would be lost."""
 import argparse
 import contextlib
 import dataclasses
@@ -26,7 +26,7 @@ from life_operate.exchange import say
 RESTORE = "life-restore"
 
 
-# ---- what is there
+# ---- the present files
 
 
 class CurrentArchive:
@@ -87,7 +87,7 @@ class Findings:
 
 
 def join(copy: str, archive: str, new: str, name: str) -> Contents:
-    """Merges a copy with the log that is beside the archive's place. A log holds whole pages, so it fits every copy
+    """Merges a copy with the log next to the archive's place. A log holds complete pages, so it fits every copy
     that was made after the log began. An older copy lacks pages; since an archive only grows, the check then finds gaps
     in it."""
     remove_files(new)
@@ -101,7 +101,7 @@ def join(copy: str, archive: str, new: str, name: str) -> Contents:
 
 
 def known_copies(archive: str, folder: str, new: Contents) -> dict[str, Contents]:
-    """The readable copies of a club, from the newest to the first that has nothing more than the new archive: older
+    """The readable copies of a club, from the newest to the first that has no more than the new archive: older
     copies have even less. That rule fails for copies with a time in the future, so all of those are read."""
     found: dict[str, Contents] = {}
     if not os.path.isdir(folder):
@@ -135,7 +135,7 @@ def gather(archive: str, folder: str, room: str, program: str, new: Contents) ->
 
 
 def try_copy(program: str, path: str, found: Contents) -> str:
-    """Has the program try a copy of a file, since it may write to what it opens; returns what it says of the first
+    """Has the program try a copy of a file, since it may write to the file; returns its line about the first
     wrong row, or ''."""
     trial = path + ".trial"
     try:
@@ -164,7 +164,7 @@ def differences(new: Contents, there: Contents) -> list[str]:
 
 
 def decide(new: Contents, found: Findings, words: argparse.Namespace) -> None:
-    """Says what would be lost, and refuses to lose it unless the command line asked for that."""
+    """Names the rows that would be lost, and refuses to lose them unless the command line asked for that."""
     faults = [there for there in found.all() if missing_rows(new, there)]
     if not faults:
         return
@@ -207,5 +207,5 @@ def decide_on_row(wrong: str, words: argparse.Namespace) -> None:
 
 
 def copies_with_more(new: Contents, found: Findings) -> list[str]:
-    """The names of copies that have more than the new archive. life-copy would refuse to work beside them."""
+    """The names of copies that have more than the new archive. life-copy would refuse to work next to them."""
     return [name for name, contents in found.copies.items() if missing_rows(new, contents)]

@@ -3,7 +3,7 @@ user.
 
     life-new-archive [--settings FILE] [--although-there-are-copies] [--if-missing]
 
-If the file exists, it stays, and the command refuses; with --if-missing it says nothing. The service itself never
+If the file exists, it stays, and the command refuses; with --if-missing it stays silent. The service itself never
 creates an archive: if the file is missing, a disk is not mounted or a path is wrong. If there are copies, or something
 that a restore moved away, there was an archive before, and its numbers would be given again. That needs
 --although-there-are-copies, which moves the copies away into a folder before-new-archive-.. next to them.
@@ -28,8 +28,8 @@ def copies_in(archive: str, folder: str) -> list[str]:
 
 
 def traces(archive: str, copies: str) -> list[str]:
-    """The evidence that there was an archive: copies of it, and what other commands have moved away or copied before a
-    change."""
+    """The evidence that there was an archive: copies of it, and files that other commands have moved away or copied
+    before a change."""
     folders = [folder for folder in sorted({os.path.dirname(archive), copies}) if os.path.isdir(folder)]
     kept = [
         os.path.join(folder, name)
@@ -44,7 +44,7 @@ def look(archive: str, copies: str, words: argparse.Namespace) -> None:
     """Refuses a name that is taken, and a new archive next to the remains of another one."""
     for path in (archive, archive + "-wal"):
         if os.path.lexists(path):
-            raise Refused(f"{path} exists and was left alone")
+            raise Refused(f"{path} exists and was not changed")
     there = traces(archive, copies)
     if there and not words.although_there_are_copies:
         more = f" and {len(there) - 1} more" if len(there) > 1 else ""

@@ -1,7 +1,7 @@
 """Preview pictures of deposits, which other sites show for a link: files of the search index, previews/N.png, drawn by
 life-draw.
 
-A run draws what is missing, the newest deposit first, and stops after some seconds, so a large archive gets its
+A run draws missing pictures, the newest deposit first, and stops after some seconds, so a large archive gets its
 pictures in several runs. The oldest deposits of a very large archive have none, and so has a deposit with a long text
 or a large picture. For these the pages have the picture of the site.
 """
@@ -19,7 +19,7 @@ from typing import Protocol
 from life_operate.archive import sync
 
 PREVIEWS = "previews"
-# What the next run compares with.
+# The next run compares with this.
 STATE = "state.json"
 # How many of the newest deposits have a picture, and how many seconds a run draws, and life-draw one picture.
 MOST, SECONDS, DRAWN_WITHIN = 10_000, 20, 5
@@ -39,7 +39,7 @@ ROWS = "SELECT id, rule, population, length(rle), substr(rle, 1, 14000) FROM dep
 
 
 class Archive(Protocol):
-    """What is needed of index.Archive."""
+    """The part of index.Archive that is needed here."""
 
     counts: dict[str, int]
     withdrawn: frozenset[int]
@@ -52,7 +52,7 @@ class Archive(Protocol):
 
 
 def png_of(document: bytes) -> bytes | None:
-    """A PNG of what an SVG document of life-draw shows."""
+    """A PNG with the picture of an SVG document of life-draw."""
     box = BOX.search(document)
     if not box:
         return None
@@ -95,7 +95,7 @@ def drawn(program: str, text: bytes) -> bytes | None:
 
 
 class Previews:
-    """The folder of pictures, and what was drawn: a digest for each deposit, with or without a picture, and for each
+    """The folder of pictures, and a record of them: a digest for each deposit, with or without a picture, and for each
     complete block."""
 
     def __init__(self, folder: str) -> None:
@@ -143,7 +143,7 @@ class Previews:
 
 
 def draw_block(archive: Archive, previews: Previews, program: str, begin: int, first: int, end: float) -> bool:
-    """Draws what is missing of a block, the newest first; returns whether nothing is missing then."""
+    """Draws the missing pictures of a block, the newest first; returns whether it then has all."""
     for number, *row in reversed(archive.rows(ROWS, begin, BLOCK)):
         digest = hashlib.sha256(repr(row).encode()).hexdigest()[:16]
         assert isinstance(number, int)

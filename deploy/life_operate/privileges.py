@@ -21,7 +21,7 @@ from life_operate.signals import ENDING, die_with_parent
 
 # The longest message in bytes; a request and a reply are one message each.
 MOST_OF_MESSAGE = 65536
-# What the helper does for a request: it gets the request's words, and answers with a text and possibly an open file.
+# An action of the helper: it gets the words of a request, and answers with a text and possibly an open file.
 Action = Callable[..., tuple[str, int | None]]
 
 
@@ -113,7 +113,7 @@ class Helper:
         return self.exchange(words)[0]
 
     def file(self, *words: str) -> int | None:
-        """The open file that answers a request, or nothing."""
+        """The open file that answers a request, if any."""
         return next(iter(self.exchange(words)[1]), None)
 
     def exchange(self, words: tuple[str, ...]) -> tuple[str, list[int]]:
@@ -131,7 +131,7 @@ class Helper:
 
 
 def answer(line: socket.socket, request: bytes, actions: dict[str, Action]) -> None:
-    """Does what a worker asks for, if it is one of these actions."""
+    """Does the action that a worker requests, if it is one of these."""
     name, *words = json.loads(request)
     files = []
     try:

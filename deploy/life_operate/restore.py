@@ -85,14 +85,14 @@ class Source:
         return sum(os.fstat(file.fileno()).st_size for file in (self.file, self.log) if file)
 
     def look(self, archive: str) -> None:
-        """Refuses what can't be restored. Only in a folder before-.. a log belongs to its file: elsewhere somebody has
-        written to a copy."""
+        """Refuses a copy that can't be restored. Only in a folder before-.. a log belongs to its file: elsewhere
+        somebody has written to a copy."""
         if self.is_file(archive):
             raise Refused(f"{self.path} is the archive itself")
         written = self.log and os.fstat(self.log.fileno()).st_size >= LEAST_COMMIT
         if written and not os.path.basename(os.path.dirname(os.path.realpath(self.path))).startswith("before-"):
             raise Refused(
-                f"{self.path}-wal has what was written to the copy since, and life-copy makes no such file; "
+                f"{self.path}-wal has rows that were written to the copy since; life-copy makes no such file; "
                 "a copy with a log must be in a folder before-.."
             )
 
@@ -127,7 +127,7 @@ class Restore:
             exchange.remove_old_rooms(self.folder)
             if self.words.copy is None:
                 if not ended:
-                    raise Refused(f"nothing was interrupted; to put a copy back: {RESTORE} COPY")
+                    raise Refused(f"no restore was interrupted; to put a copy back: {RESTORE} COPY")
                 return
             with exchange.new_room(self.folder, exchange.ROOM, self.signals) as room:
                 self.prepare(room)
@@ -175,15 +175,15 @@ class Restore:
         remove_files(joined)
 
     def look_for_room(self) -> None:
-        """Requires room for the new file and one more: the program's trial, or what is read from the archive."""
+        """Requires room for the new file and one more: the program's trial, or the copy of the archive that is read."""
         there = sum(os.path.getsize(path) for path in (self.archive, self.archive + "-wal") if os.path.exists(path))
         wanted, free = 2 * self.source.size() + there, shutil.disk_usage(self.folder).free
         if free < wanted:
             raise Refused(f"{self.folder} has room for {free:,} bytes, but a restore needs {wanted:,}")
 
     def look_again(self) -> bool:
-        """Checks what came while the service still ran: merges a log that grew again, or decides again about what would
-        be lost."""
+        """Checks the rows that came while the service still ran: merges a log that grew again, or decides again about
+        what would be lost."""
         room = os.path.dirname(self.new)
         if self.words.with_log:
             if self.log == begin_of(self.archive + "-wal"):

@@ -213,7 +213,7 @@ HASH = re.compile(r"\$(1|2[abxy]|5|6|7|apr1|gy|y)\$.+|\{(PLAIN|SHA|SSHA)\}.+|[./
 
 
 def check_members(settings: dict[str, str]) -> None:
-    """Refuses a members file with lines that let nobody deposit. Whoever can't read the file says nothing."""
+    """Refuses a members file with lines that let no one deposit, if this user can read it."""
     path = settings["MEMBERS_FILE"]
     try:
         lines = lines_of(path) if path else []
@@ -221,7 +221,7 @@ def check_members(settings: dict[str, str]) -> None:
         return
     faults = [f"{place}{why}" for place, line in lines if (why := fault_of_member(line))]
     if path and not lines:
-        faults = [f"MEMBERS_FILE={path}: it has no members, so nobody can deposit"]
+        faults = [f"MEMBERS_FILE={path}: it has no members, so no one can deposit"]
     if faults:
         more = f"; and {len(faults) - MOST_FAULTS} more" if len(faults) > MOST_FAULTS else ""
         raise BadSetting("; ".join(faults[:MOST_FAULTS]) + more)
@@ -265,7 +265,7 @@ def check_all(settings: dict[str, str]) -> None:
 
 
 def settings_of(path: str | None, words: Iterable[str] = ()) -> dict[str, str]:
-    """All settings, checked. Arguments override those of a file, which may be None, and these override the file beside
+    """All settings, checked. Arguments override those of a file, which may be None, and these override the file next to
     the package."""
     settings = taken(lines_of(OWN), FORMS)
     if path:

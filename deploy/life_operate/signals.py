@@ -19,7 +19,7 @@ def die_with_parent() -> None:
 
 
 def begin_program() -> None:
-    """What the process of a program does before the program begins: it ends with its parent, and signals end it."""
+    """Prepares the process of a program before the program begins: it ends with its parent, and signals end it."""
     die_with_parent()
     for number in ENDING:
         signal.signal(number, signal.SIG_DFL)
@@ -40,7 +40,7 @@ def blocked() -> Iterator[None]:
 def started(words: list[str], ends_within: float = 0) -> Iterator[subprocess.Popen[bytes]]:
     """Runs a program for the time of a block. It has no input; its output and its errors are pipes. If it still runs at
     the end of the block, it gets SIGTERM, and is killed `ends_within` seconds later. A signal waits until the program
-    has started: otherwise nobody would know that it runs.
+    has started: otherwise no one would know that it runs.
     """
     process = None
     try:

@@ -1,6 +1,6 @@
 """Fills settings into templates, by Jinja2.
 
-Each setting is a variable; TLS and HSTS are empty if they are `no`. DIGEST is the digest of the whole text.
+Each setting is a variable; TLS and HSTS are empty if they are `no`. DIGEST is the digest of the complete text.
 """
 import hashlib
 import math
@@ -18,7 +18,7 @@ DIGEST = "@DIGEST@"
 
 
 def with_derived(settings: dict[str, str]) -> dict[str, str]:
-    """The settings, and what is derived from them: a second place on this machine, no HSTS without TLS, nginx's line
+    """The settings, and values derived from them: a second place on this machine, no HSTS without TLS, nginx's line
     for each proxy in front of it, the logs that Debian's logrotate file for nginx does not cover, the seconds after
     which a client may send its next census, and nginx's entries for the deposits that were withdrawn."""
     place, logs = settings["SECOND_PLACE"], {settings["WEB_LOG"], settings["WEB_ERRORS"]}

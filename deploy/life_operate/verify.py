@@ -3,7 +3,7 @@ user of the archive.
 
     life-sound PROGRAM ARCHIVE COPIES
 
-It runs `PROGRAM check` on the newest copy of ARCHIVE in the folder COPIES, and prints what the program says. If the
+It runs `PROGRAM check` on the newest copy of ARCHIVE in the folder COPIES, and prints the program's lines. If the
 copy is not sound or can't be checked, a line on standard error says why, and the status is 1.
 """
 import argparse
@@ -22,7 +22,7 @@ def newest_copy(archive: str, folder: str) -> str:
 
 
 def checked(program: str, copy: str) -> str:
-    """What the program says of a sound copy."""
+    """The program's line about a sound copy."""
     status, said, errors = checked_by_program(program, "--db", copy)
     if status and said:
         raise Refused(f"{copy} is not sound: {said}")

@@ -6,8 +6,8 @@
 
 The number goes into the list /etc/life/withdrawn, with the reason, which only administrators can read; --undo takes it
 out. Then life-configure has nginx load the list, so that the gateway answers 410 for the deposit. nginx's cache is
-emptied, and the search index made again. A line says what each step did, and the last line what no step can reach.
-Without a number it prints the list.
+emptied, and the search index made again. A line names the result of each step, and the last line names the places that
+no step can reach. Without a number it prints the list.
 
 If a step fails, the others are done all the same, and the status is 1. After that, and after a signal, the same command
 does the rest.
@@ -40,7 +40,7 @@ WITHIN, ANSWERS_WITHIN = 600, 5
 
 
 def run(*words: str) -> bool:
-    """Whether a command succeeds. A session of its own keeps a Ctrl-C away: what has begun ends."""
+    """Whether a command succeeds. A separate session keeps a Ctrl-C away, so the command ends by itself."""
     done = subprocess.run(
         words, stdin=subprocess.DEVNULL, stdout=subprocess.DEVNULL, start_new_session=True, check=False
     )
@@ -72,7 +72,7 @@ def gateway(settings: dict[str, str], number: int, is_withdrawn: bool) -> str:
     if (status == 410) != is_withdrawn and status != 0:
         raise Refused(f"it still answers {status} at /deposits/{number}: run life-configure, which says why")
     if not loaded:
-        raise Refused("run life-configure, which says what is wrong")
+        raise Refused("run life-configure, which names the fault")
     if status == 0:
         return "nginx does not answer here; once it does, it reads the list"
     return f"answers {status} at /deposits/{number}" + (f", at /d/{number} and below both" * is_withdrawn)

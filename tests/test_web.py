@@ -46,6 +46,7 @@ import web_search
 import web_visits
 import web_waiting
 import web_withdrawn
+import web_words
 from web_drawings import later, runs_of, seen
 
 pytestmark = pytest.mark.full
@@ -133,7 +134,7 @@ def test_headers(gateway: Gateway) -> None:
         "txt": "text/plain; charset=utf-8",
     }
     pages = os.path.join(gateway.folder, "pages")
-    names = sorted(set(os.listdir(pages)) - {"index.html"})
+    names = sorted(set(os.listdir(pages)) - {"index.html", "words.html"})
     for name in names:
         status, file, lines = asked(gateway.port, f"/web/{name}")
         keeping = "public, max-age=31536000, immutable" if DIGESTED.fullmatch(name) else "no-cache"
@@ -153,6 +154,7 @@ def test_headers(gateway: Gateway) -> None:
         "/web/main.js",
         "/web/player/stepper.js",
         "/web/index.html",
+        "/web/words.html",
         "/web/README.md",
         "/web",
         "/web/../nginx.conf",
@@ -584,6 +586,7 @@ PARTS: list[Callable[..., None]] = [
     *web_editor.PARTS,
     *web_waiting.PARTS,
     *web_layout.PARTS,
+    *web_words.PARTS,
     *web_design.PARTS,
     *web_home.PARTS,
     *web_search.PARTS,

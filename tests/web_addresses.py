@@ -25,7 +25,7 @@ GUN = "Gosper glider gun"
 ADDRESSES = [
     ("/", "", ""),
     ("/d", "Deposits · ", "Deposits"),
-    ("/d/after/3", "Deposits · ", "Deposits"),
+    ("/d/after/3", "Deposits · ", "Deposits after 3"),
     ("/d/of/ann", "Deposits of ann · ", "Deposits of ann"),
     ("/d/of/ann/before/4", "", "Deposits of ann"),
     ("/d/4", "Deposit 4 · ", GUN),
@@ -44,6 +44,7 @@ ADDRESSES = [
     ("/new", "New deposit · ", "New deposit"),
     ("/find", "Find · ", "Find"),
     ("/find?text=gun", "Find · ", "gun · Found"),
+    ("/find?member=ann&cells=5..9", "Find · ", "member ann · cells 5..9 · Found"),
     ("/haul", "Haul · ", "Haul"),
     ("/D/4", "Deposit 4 · ", GUN),
     ("/d/4/", "Deposit 4 · ", GUN),

@@ -196,6 +196,8 @@ def boxed(gateway: Gateway, browser: Browser, base: str, folder: str) -> None:
         ("B36/S23", "/find?rule=B36%2FS23"),
         ("23/36", "/find?rule=B36%2FS23"),
         ("xq4_153 B36/S23", "/o/B36-S23/xq4_153"),
+        ("xs7_2596/b36s23", "/o/B36-S23/xs7_2596"),
+        ("https://catagolue.example/object/xs7_2596/b3s23", "/o/B3-S23/xs7_2596"),
         ("xp15", "/o?text=xp15"),
         ("XS7_", "/o?text=xs7_"),
         ("Period 3", "/o?kind=p&period=3"),

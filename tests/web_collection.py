@@ -16,6 +16,7 @@ from pages import asked, content, kept, listed, told
 from web_drawings import later, seen
 from web_many import written
 
+ENTER = "\ue007"
 LINES = ["bo$2bo$3o!", "3o!", "2o$2o!"]
 # Captions that an address has to survive. The last one has signs that turn the direction of a text, and no letter.
 TEXTS = [
@@ -41,6 +42,18 @@ return words[0].map((text) => {
 });
 """
 READ = "return (await import('/sources/shared/collection.js')).readCollection(words[0]);"
+# Each request waits until `release()`.
+HELD = """
+const { fetch } = window;
+const held = new Promise((resolve) => { window.release = resolve });
+window.fetch = (...words) => held.then(() => fetch(...words));
+"""
+# `saved` counts the files that the page makes.
+SAVED = """
+const { createObjectURL } = URL;
+window.saved = 0;
+URL.createObjectURL = (...words) => { window.saved += 1; return createObjectURL(...words); };
+"""
 SHOWN = """
 return [...document.querySelectorAll('.collection li')].map((one) => [
   one.querySelector('.place').textContent, one.querySelector('.caption').textContent,
@@ -100,6 +113,8 @@ def played(gateway: Gateway, browser: Browser, base: str, _folder: str) -> None:
     browser.open(f"{base}/l/{numbers[0]}~First,{numbers[1]}at1~Second,900000,{numbers[2]}")
     check("the first", browser.until(lambda: seen(browser)[0] == later(texts[0], 0)))
     same("its place", [browser.text("#place"), browser.text(".sequence .caption")], ["1 of 4", "First"])
+    labels = browser.run("return [...document.querySelectorAll('.collection li > button')].map((one) => one.ariaLabel)")
+    same("the names of the buttons that play one", len(set(labels)), 4)
     check("the first has no deposit before it", browser.one("#before").get_attribute("disabled"))
     browser.one("#next").click()
     check("the second, at its generation", browser.until(lambda: seen(browser)[0] == later(texts[1], 1)))
@@ -164,6 +179,25 @@ def edited(gateway: Gateway, browser: Browser, base: str, _folder: str) -> None:
     too_many(browser, base, one)
 
 
+def emptied(gateway: Gateway, browser: Browser, base: str, _folder: str) -> None:
+    """A deposit that is added after the last one was removed is shown, and added once if Enter is pressed twice."""
+    one, two = named(gateway, "emptied", 2)
+    browser.open(f"{base}/l/{one}")
+    check("the only one", browser.until(lambda: browser.text("#now") == "emptied 1"))
+    browser.one("#edit").click()
+    browser.one(".collection [title=Remove]").click()
+    check("without deposits there is no player", browser.at("/l") and not browser.one(".sequence").is_displayed())
+    browser.run(HELD)
+    browser.type("#added", f"{two}{ENTER}{ENTER}")
+    browser.run("release()")
+    check("the new one is named", browser.until(lambda: browser.text("#now") == "emptied 2"))
+    text = told(gateway, f"/deposits/{two}")
+    check("the new one is drawn", browser.until(lambda: seen(browser)[0] == later(text, 0)))
+    same("it is added once", [path_of(browser), browser.text("#place")], [f"/l/{two}", "1 of 1"])
+    browser.type("#added", f"{one}{ENTER}")
+    check("another one is added", at_end(browser, f"{two},{one}"))
+
+
 def too_many(browser: Browser, base: str, one: int) -> None:
     """A collection that is as long as one may be is not changed."""
     browser.open(f"{base}/l/{','.join([str(one)] * 500)}")
@@ -194,9 +228,11 @@ def packed(gateway: Gateway, browser: Browser, base: str, folder: str) -> None:
     address = f"/l/~Two,{one}~The_glider,{two}at1,900000"
     browser.open(base + address)
     browser.until(lambda: browser.text("#now") == "packed 1")
-    browser.one("#pack").click()
+    browser.run(SAVED)
+    browser.run("const pack = document.getElementById('pack'); pack.click(); pack.click()")
     path = os.path.join(folder, "downloads", "collection.zip")
     check("it is loaded", browser.until(lambda: os.path.exists(path)))
+    same("it is made once", browser.run("return window.saved"), 1)
     with zipfile.ZipFile(io.BytesIO(content(path))) as file:
         same("no file is damaged", file.testzip(), None)
         names = ["1-packed-1.rle", "2-packed-2-generation-1.rle", "contents.txt"]
@@ -261,4 +297,4 @@ def begun(gateway: Gateway, browser: Browser, base: str, folder: str) -> None:
     browser.run("sessionStorage.clear()")
 
 
-PARTS = [addresses, played, edited, packed, printed, begun]
+PARTS = [addresses, played, edited, emptied, packed, printed, begun]

@@ -37,6 +37,8 @@ def shared(_gateway: Gateway, browser: Browser, base: str, _folder: str) -> None
     same("what shares a deposit", labels, wanted)
     tops = {browser.run("return arguments[0].offsetTop", one) for one in browser.all(".share > .row > button")}
     same("one row", len(tops), 1)
+    left, first = (box(browser, selector)[0] for selector in (".share .inline label", ".share .row button"))
+    same("Compare begins below the first", left, first)
     folded = browser.run("return ['download', 'census'].map((id) => document.getElementById(id).open)")
     same("what is folded", folded, [False, False])
 
@@ -117,6 +119,16 @@ def phone(_gateway: Gateway, browser: Browser, base: str, _folder: str) -> None:
     browser.screen()
 
 
+def counting(_gateway: Gateway, browser: Browser, base: str, _folder: str) -> None:
+    """A census that takes long says so, in sight."""
+    browser.open(f"{base}/d/4")
+    browser.unfold()
+    browser.type("#census-member", "ann")
+    browser.run("window.fetch = () => new Promise(() => {})")
+    browser.one("#count").click()
+    check("that it counts", browser.until(lambda: browser.text("#census .waiting") == "Counting…"))
+
+
 def counted(_gateway: Gateway, browser: Browser, base: str, _folder: str) -> None:
     """Ages that take long say so."""
     browser.open(f"{base}/d/4/at/40")
@@ -129,4 +141,4 @@ def counted(_gateway: Gateway, browser: Browser, base: str, _folder: str) -> Non
     browser.run("localStorage.clear()")
 
 
-PARTS = [shared, deposited, objects, found, tables, colors, phone, counted]
+PARTS = [shared, deposited, objects, found, tables, colors, phone, counting, counted]

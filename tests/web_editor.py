@@ -120,6 +120,8 @@ def one_thing(gateway: Gateway, browser: Browser, base: str, _folder: str) -> No
     same("a name that is typed stays", typed_name(browser), "Two")
     browser.type("#pattern", "#C Kept\nx = 2, y = 1, rule = B36/S23\n2o!")
     check("the text is drawn", browser.until(lambda: "2 cells, 2 by 1, B36/S23" in browser.text(".preview")))
+    browser.one("#draw-copy").click()
+    check("what is copied has the rule", "rule = B36/S23\n" in str(browser.run("return sessionStorage.copied")))
     browser.one("#draw-columns").click()
     browser.one("#draw-clear").click()
     same("lines of the text stay", browser.run(TEXT), "#C Kept\nx = 0, y = 0, rule = B36/S23\n!\n")

@@ -327,7 +327,7 @@ def refused(_gateway: Gateway, browser: Browser, base: str, folder: str) -> None
         browser.drop([good], "main")
         before = is_shown(browser, HAUL, LIFE)
         browser.drop([written(folder, name, text)], "main")
-        found = browser.until(lambda: browser.text(".refusal") == f"{name} is not a whole table of life-haul.")
+        found = browser.until(lambda: browser.text(".refusal") == f"{name} is not a complete table of life-haul.")
         check(f"{name} is refused", before and found and browser.one(".refusal").get_attribute("role") == "alert")
         same(f"{name} is heard of", browser.text("#status"), "That is not a table of a haul.")
         check(f"nothing is shown of {name}", browser.all("main table") == [] and browser.text(".by") == "")

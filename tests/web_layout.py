@@ -58,14 +58,21 @@ def proof(_gateway: Gateway, browser: Browser, base: str, _folder: str) -> None:
 
 
 def on_its_side(_gateway: Gateway, browser: Browser, base: str, _folder: str) -> None:
-    """On a phone on its side, and in a small window, the pattern and Play are seen together."""
+    """On a phone on its side, and in a small window, the pattern, Play and the mark are seen together."""
     for width, height in (ON_ITS_SIDE, (1280, 720)):
         browser.screen(width, height)
         browser.open(f"{base}/d/4")
         bottom = browser.run(BOTTOM, "#play")
         check(f"Play ends at {bottom} of {height}", bottom <= height)
         top = browser.run("return document.querySelector('canvas.large').getBoundingClientRect().height")
-        check(f"the canvas has {top} of {height}", top >= 90)
+        check(f"the canvas has {top} of {height}", top >= 120)
+        bottom = browser.run(BOTTOM, ".source")
+        check(f"the mark ends at {bottom} of {height}", bottom <= height)
+    browser.screen(*ON_ITS_SIDE)
+    browser.run("sessionStorage.clear()")
+    browser.open(f"{base}/new")
+    bottom = browser.run(BOTTOM, "#drawing")
+    check(f"the drawing of the form ends at {bottom} of {ON_ITS_SIDE[1]}", 0 < bottom <= ON_ITS_SIDE[1])
     browser.screen()
 
 

@@ -362,7 +362,7 @@ def broken_off(gateway: Gateway, browser: Browser, _base: str, folder: str) -> N
         same(
             "after a reload the page lists what was not sent",
             [line[1] for line in browser.run(LINES)],
-            ["Not sent. Drop the files again: nothing is stored twice."] * 2,
+            ["Not sent. Drop the files again: each is stored only once."] * 2,
         )
     finally:
         relay.end()

@@ -16,8 +16,8 @@ from pages import WEB, bundled, content, index, kept
 MOST_REQUESTS = 20
 # A slow line: milliseconds until an answer begins, and bytes a second.
 LATENCY, RATE = 150, 200_000
-# The most bytes of the pages' files that such a visit transfers, compressed: 0.3 s on that line.
-MOST_SENT = 60_000
+# The most bytes of the pages' files that such a visit transfers, compressed: 0.28 s on that line.
+MOST_SENT = 55_000
 # Above this the first picture is late, in milliseconds. A machine with other work is much slower than the 1,500 that
 # are wanted.
 LATE = 8000
@@ -77,7 +77,7 @@ def visit(browser: Browser, relay: Relay, address: str) -> tuple[list[str], floa
 
 def bundles(gateway: Gateway, _browser: Browser, _base: str, folder: str) -> None:
     """The same sources always give the same files. Without a folder the script says how it is called. A page that names
-    a file that nobody makes is refused."""
+    a file that nobody makes is refused, and a guide without words."""
     script, again = os.path.join(DEPLOY, "bundle"), os.path.join(folder, "bundled-again")
     same("bundled again", subprocess.run([script, again], timeout=60, check=False).returncode, 0)
     pages = os.path.join(gateway.folder, "pages")
@@ -87,13 +87,17 @@ def bundles(gateway: Gateway, _browser: Browser, _base: str, folder: str) -> Non
     same("without a folder", (done.returncode, done.stdout, done.stderr), (2, "", "usage: deploy/bundle FOLDER\n"))
     changed = os.path.join(folder, "changed")
     shutil.copytree(WEB, os.path.join(changed, "web"))
-    os.mkdir(os.path.join(changed, "deploy"))
+    for name in ("deploy", "docs"):
+        os.mkdir(os.path.join(changed, name))
     script = shutil.copy(script, os.path.join(changed, "deploy"))
-    with open(os.path.join(changed, "web", "index.html"), "a", encoding="utf-8") as page:
-        page.write('<script src="/web/none.js"></script>\n')
-    done = subprocess.run([script, again], capture_output=True, text=True, timeout=60, check=False)
-    refused = "bundle: index.html names files that are not bundled: none.js\n"
-    same("a page that names no file", (done.returncode, done.stdout, done.stderr), (1, "", refused))
+    for path, text, refused in (
+        ("docs/GUIDE.md", "## Terms\n", "docs/GUIDE.md has no table of words"),
+        ("web/index.html", '<img src="/web/none.svg">\n', "index.html names files that are not bundled: none.svg"),
+    ):
+        with open(os.path.join(changed, path), "a", encoding="utf-8") as page:
+            page.write(text)
+        done = subprocess.run([script, again], capture_output=True, text=True, timeout=60, check=False)
+        same(f"with {path} changed", (done.returncode, done.stdout, done.stderr), (1, "", f"bundle: {refused}\n"))
 
 
 def visits(gateway: Gateway, _browser: Browser, _base: str, folder: str) -> None:

@@ -114,8 +114,20 @@ def already(_gateway: Gateway, browser: Browser, base: str, _folder: str) -> Non
     )
 
 
+# From now on lists come once they are released.
+HELD = """
+const fetched = window.fetch;
+const held = new Promise((resolve) => { window.release = resolve; });
+window.fetch = async (path, options) => {
+  if (path.startsWith('/deposits/after/')) await held;
+  return fetched(path, options);
+};
+"""
+
+
 def neighbours(gateway: Gateway, browser: Browser, base: str, _folder: str) -> None:
-    """A deposit leads to the next one only if there is one, and from a number that is not there one goes back."""
+    """A deposit leads to the next one only if there is one, even if the list with it is late, and from a number that is
+    not there one goes back."""
     last = kept(gateway, "last", b"#N Last\nx = 1, y = 2\no$o!\n")
     time.sleep(OLD)
     links = "return [...document.querySelectorAll('.pager a')].map((link) => link.getAttribute('href'))"
@@ -131,6 +143,12 @@ def neighbours(gateway: Gateway, browser: Browser, base: str, _folder: str) -> N
     browser.until(lambda: browser.text(".refusal"))
     browser.press(KEYS["older"])
     check("back from a number that is not there", browser.at(f"/d/{last}"))
+    browser.run(HELD)
+    browser.go(f"/d/{last - 1}")
+    check("the deposit comes before the list", browser.at(f"/d/{last - 1}") and browser.text("h1") != "")
+    browser.press(KEYS["newer"])
+    browser.run("window.release()")
+    check("its key waits for the list", browser.at(f"/d/{last}"))
 
 
 def capitals(_gateway: Gateway, browser: Browser, base: str, _folder: str) -> None:
@@ -298,11 +316,12 @@ def nothing_yet(gateway: Gateway, browser: Browser, base: str, _folder: str) -> 
     browser.open(f"{base}/about")
     browser.run(EMPTY)
     browser.go("/")
-    check("an empty archive", browser.until(lambda: "There is nothing here yet" in browser.text(".empty")))
+    check("an empty archive", browser.until(lambda: "This list is still empty" in browser.text(".empty")))
     same("examples of an empty archive", browser.run(examples), ["loaf", "xq4_153", "B36/S23"])
     check("nothing plays", browser.until(lambda: not browser.one("#play-it").is_displayed()))
     without = asked(gateway.port, "/")[1].decode().split("<noscript>")[1].split("</noscript>")[0]
-    check("links without scripts", '<a href="/deposits/1">' in without and '<a href="/deposits/after/0">' in without)
+    for path in ("/words", "/deposits/after/0", "/deposits/1"):
+        check(f"a link without scripts to {path}", f'<a href="{path}">' in without)
 
 
 def followed(_gateway: Gateway, browser: Browser, base: str, _folder: str) -> None:

@@ -11,9 +11,9 @@ import { deposits, depositsOf } from './pages/list.js';
 import { Refused } from './requests/refusals.js';
 
 /** A page of a group. */
-const lazyPage = (name, begin) => async (page, ...given) => {
+const lazyPage = (name, begin) => async (page, ...parts) => {
   const module = await load(name);
-  if (!page.signal.aborted) await module[begin](page, ...given);
+  if (!page.signal.aborted) await module[begin](page, ...parts);
 };
 
 // addresses: written by tools/make-tables from docs/addresses.csv
@@ -257,8 +257,8 @@ async function takeFiles(files) {
  * The files of a drop, and the pattern files of its folders. A drop's data exist only during its event, so they are
  * read before any await.
  */
-async function dropped({ items, files: own }) {
-  const [entries, files] = [[...items].map((item) => item.webkitGetAsEntry?.()), [...own]];
+async function dropped({ items, files: droppedFiles }) {
+  const [entries, files] = [[...items].map((item) => item.webkitGetAsEntry?.()), [...droppedFiles]];
   if (!entries.some((entry) => entry?.isDirectory)) return files;
   const { NO_FILES, filesOf } = await load('lazyPages');
   const found = (await Promise.all(entries.filter(Boolean).map((entry) => filesOf(entry)))).flat();

@@ -44,7 +44,7 @@ export const sizeAt = (step) => (
  */
 export function stepOf(size) {
   if (size < 1) return STEPS_A_HALF * Math.log2(size);
-  const found = SIZES.findIndex((one) => one >= size);
+  const found = SIZES.findIndex((zoomSize) => zoomSize >= size);
   return found < 0 ? SIZES.length - 1 : found;
 }
 
@@ -63,9 +63,9 @@ export const boundStep = (step) => Math.min(Math.max(step, LEAST_STEP), SIZES.le
  * @param {number} most
  */
 export function sizeFor(columns, rows, width, height, most) {
-  const whole = Math.min(width / Math.max(1, columns), height / Math.max(1, rows), most);
-  if (whole < 1) return Math.max(whole, LEAST_SIZE);
-  return SIZES.filter((size) => size <= whole).at(-1);
+  const fittingSize = Math.min(width / Math.max(1, columns), height / Math.max(1, rows), most);
+  if (fittingSize < 1) return Math.max(fittingSize, LEAST_SIZE);
+  return SIZES.filter((size) => size <= fittingSize).at(-1);
 }
 
 /** Puts the runs of a row into the lines of a picture that show it. */

@@ -1,4 +1,4 @@
-// Drawing and editing cells by mouse, touch and keys: a canvas with its tools. What they do to cells is in edits.js.
+// Drawing and editing cells by mouse, touch and keys: a canvas with its tools. edits.js changes the cells.
 
 import { element, icon, plural } from '../shared/dom.js';
 import * as edits from '../patterns/edits.js';
@@ -27,13 +27,13 @@ const ACTIONS = {
   paste: ['Paste', 'M5 3H3v11h10V3h-2M5 2h6v3H5zM6 9h4M8 7v4'],
   clear: ['Delete the selected cells, or all', 'M2 4h12M6 4V2h4v2M4 4l1 10h6l1-10'],
 };
-/** What the dialog of keys has for as long as there is a drawing. */
+/** The keys that the dialog lists as long as there is a drawing. */
 const KEYS = [
   ['arrows, space', 'move the cursor, draw or erase its cell'],
   ['shift and arrows', 'select a box; ctrl a: all'],
-  ['ctrl and arrows', 'move what is selected'],
+  ['ctrl and arrows', 'move the selection'],
   ['r, h, v', 'turn it, reflect it across or up and down'],
-  ['delete, esc', 'delete what is selected, select nothing'],
+  ['delete, esc', 'delete the selection, end it'],
   ['ctrl c, x, v', 'copy, cut, paste'],
   ['ctrl z, y', 'undo, redo'],
 ];
@@ -53,9 +53,9 @@ function showKeys(signal) {
 export class Editor {
   canvas = element('canvas', { class: 'large', role: 'application', tabindex: 0, id: 'drawing' });
   #history = new edits.History();
-  /** What is seen: while a pointer is down, what it would make. */
+  /** The visible drawing: while a pointer is down, the one that it would make. */
   #seen = edits.EMPTY;
-  /** What the pointer does: the drawing that it makes with its last cell, and whether that is a step to undo. */
+  /** The pointer's action: returns the drawing that it makes with its last cell, and whether that is a step to undo. */
   #gesture = null;
   /** The cell that keys act on, where their selection began, and whether it is shown. */
   #cursor = null;
@@ -69,6 +69,8 @@ export class Editor {
   constructor(page, changed) {
     this.page = page;
     this.changed = changed;
+    /** The rule that copied texts have. */
+    this.rule = 'B3/S23';
     this.view = new View(this.canvas, page.signal);
     this.view.largest = LARGEST;
     this.view.over = (context, place) => this.#drawOver(context, place);
@@ -127,7 +129,7 @@ export class Editor {
 
   /** Chooses a tool. @param {string} name */
   choose(name) {
-    for (const [one, button] of Object.entries(this.tools)) button.setAttribute('aria-pressed', String(one === name));
+    for (const [tool, button] of Object.entries(this.tools)) button.setAttribute('aria-pressed', String(tool === name));
     const begin = { pencil: this.#draws(), eraser: this.#draws(false), select: this.#selects() }[name];
     this.view.tool = begin ? {
       down: (cell) => {
@@ -150,22 +152,22 @@ export class Editor {
     this.canvas.classList.toggle('drawn', begin !== undefined);
   }
 
-  /** What a pencil does, or an eraser. @param {boolean | null} isLive null for what the first cell is not */
+  /** The action of a pencil or an eraser. @param {boolean | null} isLive null for the opposite of the first cell */
   #draws(isLive = null) {
     return (first) => {
       const is = isLive ?? !edits.has(edits.cellsIn(this.#history.now), first);
       const cells = [];
-      let last = first;
+      let lastCell = first;
       const draw = (cell) => {
-        cells.push(...edits.lineBetween(last, cell));
-        last = cell;
+        cells.push(...edits.lineBetween(lastCell, cell));
+        lastCell = cell;
         return edits.drawn(this.#history.now, cells, is);
       };
       return { make: draw, isStep: true };
     };
   }
 
-  /** What the tool that selects does: inside of the selection it moves it. */
+  /** The action of the tool that selects. Inside the selection it moves the selected cells. */
   #selects() {
     return (first) => {
       const { now } = this.#history;
@@ -274,7 +276,7 @@ export class Editor {
   copied() {
     const { now } = this.#history;
     const { pattern } = edits.patternOf(now.box ? now.lifted : edits.cellsIn(now));
-    const text = fileOf(pattern, 'B3/S23');
+    const text = fileOf(pattern, this.rule);
     keepDraft(COPIED, text);
     navigator.clipboard?.writeText(text).catch(() => {});
     this.page.say('Copied.');

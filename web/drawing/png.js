@@ -75,7 +75,7 @@ export function linesOf(pattern, place, { width, height, size }) {
     const begin = (row + place.row + 1) * size * length;
     const line = lines.subarray(begin, begin + length);
     darken(line, runs, place.column + 1, size);
-    for (let more = 1; more < size - gap; more += 1) lines.set(line, begin + more * length);
+    for (let copy = 1; copy < size - gap; copy += 1) lines.set(line, begin + copy * length);
   }
   return lines;
 }

@@ -16,14 +16,14 @@ const SHARES = 64;
  * @param {number} weight
  */
 function addSpan(covered, line, begin, end, weight) {
-  const [first, last] = [Math.floor(begin), Math.floor(end)];
-  if (first === last) {
-    covered[line + first] += (end - begin) * weight;
+  const [firstPixel, lastPixel] = [Math.floor(begin), Math.floor(end)];
+  if (firstPixel === lastPixel) {
+    covered[line + firstPixel] += (end - begin) * weight;
     return;
   }
-  covered[line + first] += (first + 1 - begin) * weight;
-  for (let at = first + 1; at < last; at += 1) covered[line + at] += weight;
-  if (end > last) covered[line + last] += (end - last) * weight;
+  covered[line + firstPixel] += (firstPixel + 1 - begin) * weight;
+  for (let at = firstPixel + 1; at < lastPixel; at += 1) covered[line + at] += weight;
+  if (end > lastPixel) covered[line + lastPixel] += (end - lastPixel) * weight;
 }
 
 /**

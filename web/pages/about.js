@@ -1,4 +1,4 @@
-// The page about the archive: what it is, how to use it, and the terms of the pages.
+// The page about the archive: what it is and how to use it.
 
 import { element, withCommas } from '../shared/dom.js';
 import { GENERATION_LIMIT, LONGEST_SIDE } from '../shared/limits.js';
@@ -20,10 +20,10 @@ const sections = () => [
     ],
     [
       'Plaintext, Life 1.05 and 1.06, RLE without a header, and texts that are not UTF-8 are read too. '
-        + 'The page says what it sends.',
+        + 'The page then shows the text that it sends.',
     ],
     [
-      'A deposit gets a number and keeps it. Nothing can be changed or deleted later, '
+      'A deposit gets a number and keeps it. No deposit can be changed or deleted later, '
         + 'so give a pattern its name first. If you deposit the same file twice, it keeps its first number.',
     ],
     [
@@ -37,7 +37,7 @@ const sections = () => [
       'Space plays and pauses; the arrow keys step. ',
       element('kbd', {}, 'Run to'),
       ` plays to a generation, forward or back. The last generation is ${withCommas(GENERATION_LIMIT)}; `
-        + 'from there you can deposit what you see and play on.',
+        + 'from there you can deposit that generation and continue.',
     ],
     [
       'While a pattern plays, your browser computes the generations. Every hundredth, and the one where you stop, '
@@ -91,45 +91,9 @@ const sections = () => [
       'The program that computes generations, kinds, codes and censuses is proved correct: it meets their definitions. '
         + 'That covers everything that these pages show as the archive’s own answer. '
         + 'It does not cover the pages, the search index, the names of objects, '
-        + 'or what your browser computes while a pattern plays.',
+        + 'or the generations that your browser computes while a pattern plays.',
     ],
   ]],
-];
-
-/** The terms of the pages. */
-const TERMS = [
-  ['Box', 'The smallest rectangle with all live cells: width by height.'],
-  ['Cell', 'A square of the plane, live or dead.'],
-  ['Census', 'The objects in one generation of a deposit, counted and stored under a number.'],
-  ['Cluster', 'Live cells that are connected by steps of at most two cells. A census counts clusters.'],
-  [
-    'Code',
-    'A text that names an object, such as xq4_153 for the glider. xs: still life and its number of cells; '
-      + 'xp: oscillator and its period; xq: spaceship and its period.',
-  ],
-  ['Deposit', 'A pattern that a member has stored in the archive, under a number.'],
-  ['Generation', 'The state of a pattern after that number of steps. Generation 0 is the file.'],
-  ['Group', 'A cluster of several objects that do not change each other; also called a constellation.'],
-  ['Haul', 'The objects of many random soups, counted by the program life-haul on your own machine.'],
-  ['Kind', 'Still life, oscillator, spaceship, empty, or none of these within the limit.'],
-  ['Limit', 'The longest period that is searched for.'],
-  ['Object', 'A still life, an oscillator or a spaceship, wherever it is and however it is rotated or reflected.'],
-  ['Period', 'The number of generations after which an object looks the same again.'],
-  [
-    'Rule',
-    'B3/S23: a dead cell with 3 live neighbours is born, a live cell with 2 or 3 survives. That is Conway’s Life.',
-  ],
-  [
-    'Steady',
-    'A field is steady if all its clusters are still lifes and oscillators that never come near each other: '
-      + 'its future is known.',
-  ],
-  [
-    'Token',
-    'A text that is sent with a deposit, so that it is stored only once even if it is sent again. '
-      + 'The page computes it from the file.',
-  ],
-  ['Unresolved', 'The clusters of a census that have no code.'],
 ];
 
 /** The page about the archive. */
@@ -145,15 +109,10 @@ export async function aboutPage(page) {
       element('h2', {}, heading),
       paragraphs.map((parts) => element('p', {}, parts)),
     )),
-    element('section', { id: 'terms', class: 'prose' },
-      element('h2', {}, 'Terms'),
-      element('dl', { class: 'terms' }, TERMS.map(([term, text]) => (
-        element('div', {}, element('dt', {}, term), element('dd', {}, text))
-      ))),
-    ),
     element('section', { class: 'prose' },
       element('h2', {}, 'More'),
       element('ul', { class: 'links' },
+        element('li', {}, link('/words', 'The words of the archive')),
         element('li', {}, link('/c', 'All censuses')),
         element('li', {}, link('/haul', 'Show a haul')),
         element('li', {}, link('/index/feed.xml', 'New deposits as a feed')),

@@ -12,6 +12,8 @@ const CODE = /^x[spq][1-9][0-9]{0,5}_[0-9a-z]+$/;
 /** What codes begin with, and the objects of a period. Both lead to the list of objects. */
 const BEGINNING = /^x[spq][1-9][0-9]{0,5}_?$/;
 const PERIOD = /^period\s*([1-9][0-9]{0,3})$/;
+/** An object in the addresses of Catagolue, or the end of one. */
+const PLACE = /(?:^|\/)(x[spq][1-9][0-9]{0,5}_[0-9a-z]+)\/(b[0-8]*s[0-8]*)\/?$/;
 const DEPOSIT = /^(?:#|no\.?|deposit)?\s*#?\s*([0-9]{1,15})$/i;
 const CENSUS = /^(?:census|c)\s*#?\s*([0-9]{1,15})$/i;
 const MEMBER = /^member\s+([a-z0-9-]+)$/i;
@@ -29,14 +31,16 @@ function ruleOf(text) {
 /**
  * The address that a text leads to: an object by its code, a deposit or a census by its number, the deposits of a rule
  * or a member, the objects whose codes begin so or that have a period, or a search.
- * @param {string} given
+ * @param {string} typedText
  */
-export function addressOf(given) {
-  const text = given.trim();
+export function addressOf(typedText) {
+  const text = typedText.trim();
   if (text === '') return '/find';
-  const [word, more = ''] = text.split(/\s+(?=\S+$)/);
+  const [word, ruleWord = ''] = text.split(/\s+(?=\S+$)/);
   if (CODE.test(text.toLowerCase())) return objectAddress('B3/S23', text.toLowerCase());
-  if (CODE.test(word.toLowerCase()) && ruleOf(more)) return objectAddress(ruleOf(more), word.toLowerCase());
+  if (CODE.test(word.toLowerCase()) && ruleOf(ruleWord)) return objectAddress(ruleOf(ruleWord), word.toLowerCase());
+  const [, code, rule] = PLACE.exec(text.toLowerCase()) ?? [];
+  if (code && ruleOf(rule)) return objectAddress(ruleOf(rule), code);
   const [deposit, census] = [DEPOSIT, CENSUS].map((form) => form.exec(text)?.[1]);
   if (deposit) return depositAddress(Number(deposit));
   if (census) return censusAddress(Number(census));
@@ -72,31 +76,33 @@ async function namedObjects(text) {
     const fit = Math.max(fitOf(folded(name), text), also ? fitOf(folded(also), text) : 0);
     if (fit > 0) found.push({ code, name, fit });
   }
-  return found.sort((one, other) => other.fit - one.fit || one.name.length - other.name.length).slice(0, MOST_OBJECTS);
+  return found
+    .sort((object, other) => other.fit - object.fit || object.name.length - other.name.length)
+    .slice(0, MOST_OBJECTS);
 }
 
 /**
  * A link to an object with its drawing.
- * @param {{code: string, name: string | null, rule?: string, more?: string}} object
+ * @param {{code: string, name: string | null, rule?: string, detail?: string}} object
  */
-export function objectLink({ code, name, rule = 'B3/S23', more }) {
+export function objectLink({ code, name, rule = 'B3/S23', detail }) {
   const pattern = patternOf(code);
   return element('a', { class: 'object-link', href: objectAddress(rule, code) },
     pattern ? thumbnail(pattern, SIDE, SIDE) : null,
     element('span', {},
       element('strong', {}, name ?? element('code', {}, code)),
-      element('small', {}, more ?? (name ? element('code', {}, code) : '')),
+      element('small', {}, detail ?? (name ? element('code', {}, code) : '')),
     ),
   );
 }
 
 /**
  * What a text names besides deposits: objects, a rule, a member; a line for each.
- * @param {string} given
+ * @param {string} typedText
  * @param {string[]} members the names of members who have deposits
  */
-export async function namedLines(given, members) {
-  const text = folded(given.trim());
+export async function namedLines(typedText, members) {
+  const text = folded(typedText.trim());
   if (text === '') return [];
   const objects = await namedObjects(text);
   const rule = ruleNamed(text);
@@ -110,7 +116,7 @@ export async function namedLines(given, members) {
   if (rule) {
     lines.push(element('p', { class: 'named' },
       'Rule: ',
-      element('a', { href: `/find?${new URLSearchParams({ rule })}` }, `${given.trim()}, ${rule}`),
+      element('a', { href: `/find?${new URLSearchParams({ rule })}` }, `${typedText.trim()}, ${rule}`),
       ' · ',
       element('a', { href: `/o/${rule.replace('/', '-')}` }, 'its objects'),
     ));

@@ -42,12 +42,12 @@ const countOf = (row, isSplit) => (isSplit ? row.count + row.grouped : row.count
 /** The columns. Numbers are first sorted in descending order. @type {import('../shared/sorts.js').Column[]} */
 const COLUMNS = [
   { id: 'name', head: 'Object', value: (row) => row.name || '\uffff', isUp: true },
-  { id: 'kind', head: 'Kind', value: (row) => row.kind, isUp: true, more: true },
-  { id: 'period', head: 'Period', value: (row) => row.period, isNumber: true, isUp: true, more: true },
-  { id: 'cells', head: 'Cells', value: (row) => row.cells, isNumber: true, isUp: true, more: true },
+  { id: 'kind', head: 'Kind', value: (row) => row.kind, isUp: true, isExtra: true },
+  { id: 'period', head: 'Period', value: (row) => row.period, isNumber: true, isUp: true, isExtra: true },
+  { id: 'cells', head: 'Cells', value: (row) => row.cells, isNumber: true, isUp: true, isExtra: true },
   { id: 'count', head: 'Count', value: countOf, isNumber: true },
-  { id: 'deposits', head: 'Deposits', value: (row) => row.deposits, isNumber: true, more: true },
-  { id: 'first', head: 'First in', value: (row) => row.first, isNumber: true, isUp: true, more: true },
+  { id: 'deposits', head: 'Deposits', value: (row) => row.deposits, isNumber: true, isExtra: true },
+  { id: 'first', head: 'First in', value: (row) => row.first, isNumber: true, isUp: true, isExtra: true },
 ];
 
 /** A row of an object as the index has it. */
@@ -116,25 +116,25 @@ function fitting(rows, asked) {
     && period(row.period)
     && cells(row.cells)
   ));
-  return sorted(found.sort((one, other) => other.count - one.count), COLUMNS, asked, isSplit);
+  return sorted(found.sort((row, other) => other.count - row.count), COLUMNS, asked, isSplit);
 }
 
 /** How often an object occurs, and how many of these are in groups. */
 function countCell(row, isSplit) {
-  const more = isSplit ? `${withCommas(row.count)} alone` : `+ ${withCommas(row.grouped)} in groups`;
+  const groupText = isSplit ? `${withCommas(row.count)} alone` : `+ ${withCommas(row.grouped)} in groups`;
   const number = withCommas(countOf(row, isSplit));
-  return element('td', { class: 'number' }, number, row.grouped ? element('small', {}, more) : null);
+  return element('td', { class: 'number' }, number, row.grouped ? element('small', {}, groupText) : null);
 }
 
 /** @param {Row} row @param {string} rule @param {boolean} isSplit */
 function lineOf(row, rule, isSplit) {
-  const more = `${row.kind}${row.period > 1 ? `, period ${withCommas(row.period)}` : ''}, ${plural(row.cells, 'cell')}`;
+  const note = `${row.kind}${row.period > 1 ? `, period ${withCommas(row.period)}` : ''}, ${plural(row.cells, 'cell')}`;
   return element('tr', {},
     element('td', { class: 'drawn' }, row.pattern ? thumbnail(row.pattern, SIDE, SIDE) : null),
     element('th', { scope: 'row' },
       element('a', { href: objectAddress(rule, row.code) }, row.name || element('code', {}, row.code)),
       row.name ? element('small', {}, element('code', {}, row.code)) : null,
-      element('small', { class: 'narrow' }, more),
+      element('small', { class: 'narrow' }, note),
     ),
     element('td', { class: 'more' }, row.kind),
     element('td', { class: 'more number' }, withCommas(row.period)),
@@ -191,7 +191,7 @@ class Catalog {
     this.asked = askedBy(location.search);
     this.count = element('p', { class: 'count', role: 'status' });
     this.body = element('tbody');
-    this.more = element('button', { type: 'button', class: 'more', click: () => this.#showMore() });
+    this.moreButton = element('button', { type: 'button', class: 'more', click: () => this.#showMore() });
     this.heads = new Heads(COLUMNS, this.asked, (order) => {
       this.asked = { ...this.asked, ...order };
       this.show();
@@ -205,7 +205,7 @@ class Catalog {
         element('thead', {}, element('tr', {}, element('td', {}), this.heads.cells)),
         this.body,
       ),
-      element('p', {}, this.more),
+      element('p', {}, this.moreButton),
     );
     this.show();
   }
@@ -291,8 +291,8 @@ class Catalog {
       .slice(this.#shown, this.#shown + SHOWN)
       .map((row) => lineOf(row, this.rule, this.#isSplit)));
     this.#shown = Math.min(this.#shown + SHOWN, this.#fitting.length);
-    this.more.hidden = this.#shown >= this.#fitting.length;
-    this.more.textContent = `Show ${withCommas(Math.min(SHOWN, this.#fitting.length - this.#shown))} more `
+    this.moreButton.hidden = this.#shown >= this.#fitting.length;
+    this.moreButton.textContent = `Show ${withCommas(Math.min(SHOWN, this.#fitting.length - this.#shown))} more `
       + `of ${withCommas(this.#fitting.length)}`;
   }
 }
@@ -318,16 +318,16 @@ async function nameGroups(catalog, signal) {
 }
 
 /** The rule in an address. */
-function ruleGiven(given) {
-  const rule = readRule(ruleOfAddress(decodeURIComponent(given)));
+function ruleGiven(ruleAddress) {
+  const rule = readRule(ruleOfAddress(decodeURIComponent(ruleAddress)));
   if (typeof rule === 'string') throw new Refused('bad-rule');
   return ruleText(rule);
 }
 
 /** The page of all objects of a rule. */
-export async function catalogPage(page, given) {
+export async function catalogPage(page, ruleAddress) {
   const head = await indexHead();
-  const wanted = given === undefined ? null : ruleGiven(given);
+  const wanted = ruleAddress === undefined ? null : ruleGiven(ruleAddress);
   page.title(wanted ? `Objects of ${wanted}` : 'Objects');
   page.root.append(element('h1', { tabindex: -1 }, 'Objects'));
   if (!head) {

@@ -13,8 +13,8 @@ import { Heads, keepOrder, keptOrder, sorted } from '../shared/sorts.js';
 const SIDE = 48;
 
 /** The bar of a count, relative to the greatest one. */
-function barOf(count, most, more = '') {
-  const bar = element('span', { class: `bar ${more}`, 'aria-hidden': 'true', hidden: count === 0 });
+function barOf(count, most, className = '') {
+  const bar = element('span', { class: `bar ${className}`, 'aria-hidden': 'true', hidden: count === 0 });
   bar.style.inlineSize = `${100 * count / most}%`;
   return element('td', { class: 'bars' }, bar);
 }
@@ -22,7 +22,7 @@ function barOf(count, most, more = '') {
 const LIFE = 'B3/S23';
 
 /**
- * What the objects of a table are called: the names of well-known ones, the parts of groups, and how often an object is
+ * How the objects of a table are shown: the names of well-known ones, the parts of groups, and how often an object is
  * in groups. Groups are found after the table is shown. The window's history keeps whether they are split.
  */
 export class Labels {
@@ -163,8 +163,11 @@ export const mostOf = (rows, unresolved) => (
 /** The table of the objects; the archive sorts by code, and this table by count at first. */
 function objectsTable(number, found, labels) {
   const body = element('tbody');
-  let [rows, lines, last] = [[], new Map(), null];
-  const show = (order) => body.replaceChildren(...sorted(rows, COLUMNS, order).map((row) => lines.get(row)), last);
+  let [rows, lines, unresolvedLine] = [[], new Map(), null];
+  const show = (order) => body.replaceChildren(
+    ...sorted(rows, COLUMNS, order).map((row) => lines.get(row)),
+    unresolvedLine,
+  );
   const heads = new Heads(COLUMNS, keptOrder({ sort: 'count', isUp: false }), (order) => {
     keepOrder(order);
     show(order);
@@ -173,7 +176,7 @@ function objectsTable(number, found, labels) {
     rows = labels.counted(found.rows);
     const most = mostOf(rows, found.unresolved);
     lines = new Map(rows.map((row) => [row, objectRow(row, most, labels)]));
-    last = unresolvedRow(found.unresolved, most);
+    unresolvedLine = unresolvedRow(found.unresolved, most);
     show(heads.order);
   };
   labels.changed();
@@ -184,12 +187,12 @@ function objectsTable(number, found, labels) {
 function steadyText(found) {
   return found.steady
     ? 'Steady: all clusters are still lifes and oscillators that never come near each other, '
-      + 'so from now on each of them runs as if it were alone.'
+      + 'so from now on each of them runs as if there were no other.'
     : 'Not steady: a cluster moves, does not return within the limit, or comes near another.';
 }
 
-export async function censusPage(page, given) {
-  const number = Number(given);
+export async function censusPage(page, digits) {
+  const number = Number(digits);
   page.title(`Census ${number}`);
   const found = await census(number, page.signal);
   const [{ record }, names] = await Promise.all([deposit(found.deposit, page.signal), objectNames()]);

@@ -49,18 +49,20 @@ const COLUMNS = [
 /** A table of censuses, the newest first until it is sorted, with a button that shows more. */
 async function censusTable(page, rows, caption, counts) {
   const body = element('tbody');
-  const more = element('button', { type: 'button', class: 'more' });
+  const moreButton = element('button', { type: 'button', class: 'more' });
   const columns = COLUMNS.filter(({ id }) => counts || id !== 'count');
   let shown = [];
   const show = async () => {
-    const [from, own] = [body.childElementCount, shown];
-    const lines = await Promise.all(own.slice(from, from + LINES).map((row) => censusLine(row, counts?.get(row.id))));
+    const [from, currentRows] = [body.childElementCount, shown];
+    const lines = await Promise.all(
+      currentRows.slice(from, from + LINES).map((row) => censusLine(row, counts?.get(row.id))),
+    );
     page.signal.throwIfAborted();
     // It may have been sorted meanwhile.
-    if (own !== shown || body.childElementCount !== from) return;
+    if (currentRows !== shown || body.childElementCount !== from) return;
     body.append(...lines);
-    more.hidden = body.childElementCount >= rows.length;
-    more.textContent = `Show ${withCommas(Math.min(LINES, rows.length - body.childElementCount))} more `
+    moreButton.hidden = body.childElementCount >= rows.length;
+    moreButton.textContent = `Show ${withCommas(Math.min(LINES, rows.length - body.childElementCount))} more `
       + `of ${withCommas(rows.length)}`;
   };
   const heads = new Heads(columns, keptOrder({ sort: 'census', isUp: false }), (order) => {
@@ -70,7 +72,7 @@ async function censusTable(page, rows, caption, counts) {
     show();
   });
   shown = sorted(rows, columns, heads.order, counts);
-  more.addEventListener('click', show);
+  moreButton.addEventListener('click', show);
   await show();
   return [
     element('table', { class: 'census censuses' },
@@ -78,7 +80,7 @@ async function censusTable(page, rows, caption, counts) {
       element('thead', {}, element('tr', {}, heads.cells)),
       body,
     ),
-    element('p', {}, more),
+    element('p', {}, moreButton),
   ];
 }
 

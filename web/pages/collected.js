@@ -24,8 +24,8 @@ export class Entry {
   /**
    * @param {import('../shared/collection.js').Item} item
    * @param {any} page
-   * @param {{ play: (entry: Entry) => void, move: (entry: Entry, by: number) => void, remove: (entry: Entry) => void,
-   *   caption: (entry: Entry, text: string) => boolean }} acts what its buttons do; `caption` returns whether it fits
+   * @param {{ play: () => void, move: (by: number) => void, remove: () => void,
+   *   caption: (text: string) => boolean }} acts what its buttons do; `caption` returns whether it fits
    */
   constructor(item, page, acts) {
     this.item = item;
@@ -46,7 +46,12 @@ export class Entry {
       ),
       this.caption,
       element('p', { class: 'on-paper address' }, location.host + this.address),
-      element('button', { type: 'button', class: 'quiet', click: () => acts.play(this) }, 'Play here'),
+      element('button', {
+        type: 'button',
+        class: 'quiet',
+        'aria-label': `Play here: ${this.title}`,
+        click: acts.play,
+      }, 'Play here'),
       this.edit,
     );
     this.showCaption();
@@ -56,7 +61,7 @@ export class Entry {
     const input = element('input', { maxlength: LONGEST_CAPTION, 'aria-label': `Caption of ${this.title}` });
     input.value = this.item.caption;
     input.addEventListener('change', () => {
-      if (acts.caption(this, input.value)) this.showCaption();
+      if (acts.caption(input.value)) this.showCaption();
       input.value = this.item.caption;
     });
     const button = (label, text, act) => element('button', {
@@ -68,9 +73,9 @@ export class Entry {
     return element('div', { class: 'edit', hidden: true },
       input,
       element('p', { class: 'row' },
-        button('Earlier', '↑', () => acts.move(this, -1)),
-        button('Later', '↓', () => acts.move(this, 1)),
-        button('Remove', 'Remove', () => acts.remove(this)),
+        button('Earlier', '↑', () => acts.move(-1)),
+        button('Later', '↓', () => acts.move(1)),
+        button('Remove', 'Remove', acts.remove),
       ),
     );
   }
@@ -90,10 +95,10 @@ export class Entry {
     this.#loading ??= Promise.all([
       deposit(number, this.page.signal),
       at === 0 ? null : generation(number, at, this.page.signal),
-    ]).then(([own, later]) => {
-      this.name = own.record.name ?? this.name;
+    ]).then(([original, later]) => {
+      this.name = original.record.name ?? this.name;
       this.heading.replaceChildren(this.title);
-      return later ?? own;
+      return later ?? original;
     }).catch((error) => {
       this.#loading = null;
       throw error;

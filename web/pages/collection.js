@@ -62,13 +62,13 @@ class Collection {
   /** @param {import('../shared/collection.js').Item} item */
   #entry(item) {
     const entry = new Entry(item, this.page, {
-      play: (own) => {
+      play: () => {
         this.screen.scrollIntoView();
-        this.sequence.show(own, true);
+        this.sequence.show(entry, true);
       },
-      move: (own, by) => this.#move(own, by),
-      remove: (own) => this.#remove(own),
-      caption: (own, text) => this.#changed(() => { own.item.caption = captionOf(text); }),
+      move: (by) => this.#move(entry, by),
+      remove: () => this.#remove(entry),
+      caption: (text) => this.#changed(() => { item.caption = captionOf(text); }),
     });
     this.watch.observe(entry.card);
     return entry;
@@ -115,7 +115,10 @@ class Collection {
     this.watch.unobserve(entry.card);
     entry.card.remove();
     const other = this.entries[Math.min(at, this.entries.length - 1)];
-    if (other && this.sequence.entry === entry) this.sequence.show(other, false);
+    if (this.sequence.entry === entry) {
+      if (other) this.sequence.show(other, false);
+      else this.sequence.end();
+    }
     (other?.edit.querySelector('input') ?? this.form.querySelector('input')).focus();
     this.page.say(`${entry.title} is removed.`);
   }
@@ -144,19 +147,23 @@ class Collection {
       title.value = this.title;
     });
     const added = element('input', { id: 'added', autocomplete: 'off', placeholder: '7, 7 at 30, or an address' });
+    const button = element('button', { id: 'add' }, 'Add');
     const submit = async (event) => {
       event.preventDefault();
       this.message.replaceChildren();
+      button.disabled = true;
       try {
         if (added.value.trim() && await this.#add(added.value)) added.value = '';
       } catch (error) {
         if (!this.page.signal.aborted) this.message.replaceChildren(refusal(error));
+      } finally {
+        button.disabled = false;
       }
     };
     return element('form', { class: 'editing', hidden: true, submit },
       field('Title', title),
       field('A deposit to add', added),
-      element('button', { id: 'add' }, 'Add'),
+      button,
     );
   }
 
@@ -195,13 +202,18 @@ class Collection {
     };
     this.actions = element('div', { class: 'row' },
       copyButton('Copy the address', () => this.url, this.page.say),
-      element('button', { type: 'button', id: 'pack', click: () => this.#pack() }, 'Download all (ZIP)'),
+      element('button', {
+        type: 'button',
+        id: 'pack',
+        click: (event) => this.#pack(event.currentTarget),
+      }, 'Download all (ZIP)'),
       element('button', { type: 'button', id: 'print', click: print }, 'Print'),
     );
     return element('div', { class: 'row share' }, this.actions, this.editButton);
   }
 
-  async #pack() {
+  async #pack(button) {
+    button.disabled = true;
     const stop = new AbortController();
     const { signal } = stop;
     const ended = () => stop.abort();
@@ -221,6 +233,8 @@ class Collection {
       this.message.replaceChildren(signal.aborted
         ? 'Stopped.'
         : refusal(isLarge ? refused('These texts are too large for one file. Make two collections.') : error));
+    } finally {
+      button.disabled = false;
     }
   }
 
@@ -236,7 +250,7 @@ class Collection {
   }
 }
 
-/** The page of a collection. @param {any} page @param {string} list what is after `/l/` in the address */
+/** The page of a collection. @param {any} page @param {string} list the address after `/l/` */
 export async function collectionPage(page, list = '') {
   const collection = new Collection(list, page);
   page.root.append(...collection.parts);

@@ -9,7 +9,7 @@ const FIRST = 3;
  * @param {string[]} comments
  */
 export function withoutScripts(comments) {
-  // A script may go over several lines. What it leaves is marked by a character that no line has.
+  // A script may span several lines. Its place is marked by a character that no line has.
   const rest = comments.join('\n').replace(/\[\[[^]*?\]\]/g, (script) => script.replace(/[^\n]+/g, '\r'));
   return rest
     .split('\n')
@@ -19,11 +19,11 @@ export function withoutScripts(comments) {
 
 /**
  * The comments as one block with the lines of the file; nothing if there are none.
- * @param {string[]} given
+ * @param {string[]} fileComments
  * @returns {HTMLElement | null}
  */
-export function commentsPart(given) {
-  const comments = withoutScripts(given);
+export function commentsPart(fileComments) {
+  const comments = withoutScripts(fileComments);
   if (comments.length === 0) return null;
   const text = element('p', { class: 'comment', id: 'comments-text' });
   const show = (lines) => text.replaceChildren(lines.join('\n'));

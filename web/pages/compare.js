@@ -21,8 +21,8 @@ const MOST_CELLS = 20_000;
 /** How many deposits of the same size are compared with a pattern. */
 const MOST_COMPARED = 20;
 
-/** @param {object} one @param {object} other */
-const turnOf = (one, other) => (one.population > MOST_CELLS ? null : turnBetween(one, other));
+/** @param {object} pattern @param {object} other */
+const turnOf = (pattern, other) => (pattern.population > MOST_CELLS ? null : turnBetween(pattern, other));
 
 /**
  * The first deposit with the same cells and rule, wherever they are and however they are turned; null if the index has
@@ -74,16 +74,16 @@ class Side {
   }
 }
 
-/** What is said of two patterns. */
-function verdict(one, other, rules) {
-  const turn = turnOf(one, other);
+/** The sentence about two patterns. */
+function verdict(pattern, other, rules) {
+  const turn = turnOf(pattern, other);
   const cells = turn === null
-    ? `Different: ${plural(one.population, 'cell')} and ${plural(other.population, 'cell')}.`
+    ? `Different: ${plural(pattern.population, 'cell')} and ${plural(other.population, 'cell')}.`
     : `The same cells${turn ? `, ${turn}` : ''}.`;
   return rules[0] === rules[1] ? cells : `${cells} The rules differ: ${rules.join(' and ')}.`;
 }
 
-/** The clock of both: what it shows, and its buttons. */
+/** The clock of both: its display and its buttons. */
 class Clock {
   time = 0;
   #turn = null;
@@ -91,7 +91,7 @@ class Clock {
   constructor(sides, page) {
     this.sides = sides;
     this.page = page;
-    this.last = GENERATION_LIMIT - Math.max(...sides.map(({ from }) => from));
+    this.lastTime = GENERATION_LIMIT - Math.max(...sides.map(({ from }) => from));
     this.message = element('p', { id: 'verdict', role: 'status' });
     this.play = element('button', { type: 'button', class: 'main', id: 'play', click: () => this.toggle() }, 'Play');
     const button = (id, label, time) => (
@@ -111,16 +111,16 @@ class Clock {
   async go(time) {
     const turn = this.#turn = {};
     this.play.replaceChildren('Play');
-    await this.#show(Math.min(Math.max(time, 0), this.last), true, turn);
+    await this.#show(Math.min(Math.max(time, 0), this.lastTime), true, turn);
   }
 
   async #show(time, isResting, turn) {
     try {
-      const [one, other] = await Promise.all(this.sides.map((side) => side.show(time, isResting)));
+      const [pattern, other] = await Promise.all(this.sides.map((side) => side.show(time, isResting)));
       if (this.#turn !== turn) return;
       this.time = time;
       this.number.replaceChildren(withCommas(time));
-      if (isResting) this.message.replaceChildren(verdict(one, other, this.sides.map(({ rule }) => rule)));
+      if (isResting) this.message.replaceChildren(verdict(pattern, other, this.sides.map(({ rule }) => rule)));
     } catch (error) {
       if (!this.page.signal.aborted) this.message.replaceChildren(refusal(error));
     }
@@ -134,7 +134,7 @@ class Clock {
     const turn = this.#turn = {};
     this.play.replaceChildren('Pause');
     this.message.replaceChildren('Computed by your browser while it plays.');
-    while (this.#turn === turn && this.time < this.last && !this.page.signal.aborted) {
+    while (this.#turn === turn && this.time < this.lastTime && !this.page.signal.aborted) {
       const next = new Promise((resolve) => setTimeout(resolve, SHOWN));
       await this.#show(this.time + 1, false, turn);
       await next;
@@ -144,8 +144,8 @@ class Clock {
 }
 
 /** A deposit that the address names, at its generation. */
-async function sideOf(given, page) {
-  const found = FORM.exec(given ?? '');
+async function sideOf(address, page) {
+  const found = FORM.exec(address ?? '');
   if (!found) throw new Refused('no-such-page');
   const [number, from] = [Number(found[1]), Number(found[2] ?? 0)];
   const [{ record: { name } }, { record }] = await Promise.all([

@@ -12,8 +12,8 @@ const FIRST_GOAL = 100;
 /** After how many milliseconds the ages of cells are late. */
 const LATE = 300;
 
-const button = (label, text, click, more = {}) => (
-  element('button', { type: 'button', 'aria-label': label, title: label, click, ...more }, text)
+const button = (label, text, click, attributes = {}) => (
+  element('button', { type: 'button', 'aria-label': label, title: label, click, ...attributes }, text)
 );
 const pair = (...inside) => element('span', { class: 'pair' }, inside);
 const labelled = (label, input) => pair(element('label', { for: input.id }, label), input);
@@ -171,7 +171,10 @@ export function controls(player, view, ages, turnFull) {
   return { bar, toggle, periodic: take, changed, at: (at) => { number.value = at; slider.value = at; } };
 }
 
-/** The keys of a deposit's page; `next()` returns the row of the next deposit, if there is one. */
+/**
+ * The keys of a deposit's page; `next()` returns the row of the next deposit, if there is one, or a promise of it: the
+ * list with it may come after the press.
+ */
 export function keysOf(page, player, view, toggle, next) {
   Object.assign(page.keys, {
     ' ': () => (player.direction === 0 ? toggle(1) : player.pause()),
@@ -188,6 +191,9 @@ export function keysOf(page, player, view, toggle, next) {
     'shift ArrowRight': () => view.pan(0.1, 0),
     'shift ArrowUp': () => view.pan(0, -0.1),
     'shift ArrowDown': () => view.pan(0, 0.1),
-    ']': () => { if (next()) go(depositAddress(next().id)); },
+    ']': async () => {
+      const found = await next();
+      if (found && !page.signal.aborted) go(depositAddress(found.id));
+    },
   });
 }

@@ -123,6 +123,7 @@ function censusPart(shown, page) {
     try {
       if (!isMember(name.value)) throw new Refused('bad-member');
       rememberMember(name.value);
+      message.replaceChildren(element('p', { class: 'waiting' }, 'Counting…'));
       page.say('Counting…');
       const waiting = (time) => {
         message.replaceChildren(element('p', { class: 'waiting' },
@@ -206,9 +207,9 @@ class Stage {
   source = element('span');
   equal = element('span');
 
-  constructor(number, own, page) {
+  constructor(number, original, page) {
     this.page = page;
-    this.text = new Share(number, own, page);
+    this.text = new Share(number, original, page);
     this.view = new View(this.canvas, page.signal, () => this.#sayScrolled());
     this.plot = new Plot((at) => this.player.go(at));
     this.player = new Player(number, page.signal, this);
@@ -300,7 +301,7 @@ class Stage {
     this.page.say(this.canvas.getAttribute('aria-label'));
   }
 
-  /** What comes below the canvas and its controls. */
+  /** The parts below the canvas and its controls. */
   get parts() {
     const source = element('details', { class: 'source' },
       this.badge,
@@ -332,15 +333,14 @@ function countLater({ plot, player }, record, page) {
 }
 
 /** The page of a deposit, at a generation. */
-export async function depositPage(page, given, at = '0') {
-  const number = Number(given);
+export async function depositPage(page, digits, at = '0') {
+  const number = Number(digits);
   page.keys['['] = () => { if (number > 1) go(depositAddress(number - 1)); };
   const rows = depositRows(number, page.signal);
-  let next = null;
-  rows.then((found) => { next = found.next; }, () => {});
-  const own = await deposit(number, page.signal);
-  const { record } = own;
-  const stage = new Stage(number, own, page);
+  const next = rows.then((found) => found.next, () => null);
+  const original = await deposit(number, page.signal);
+  const { record } = original;
+  const stage = new Stage(number, original, page);
   const { player, view, bar, text, facts } = stage;
   keysOf(page, player, view, bar.toggle, () => next);
   page.keys.w = () => stage.turnFull();

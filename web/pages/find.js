@@ -13,8 +13,8 @@ import { occurrences } from './censuses.js';
 import { formOf, results } from './search.js';
 
 export async function findPage(page, query) {
-  const text = new URLSearchParams(query).get('text');
-  page.title([text, query ? 'Found' : 'Find'].filter(Boolean).join(' · '));
+  const words = [...new URLSearchParams(query)].map(([name, value]) => (name === 'text' ? value : `${name} ${value}`));
+  page.title([...words, query ? 'Found' : 'Find'].join(' · '));
   const head = await indexHead();
   page.root.append(
     element('h1', { tabindex: -1 }, query ? 'Found' : 'Find'),
@@ -50,12 +50,12 @@ export async function findPage(page, query) {
 
 /** The parts of a group, each with a link to its page. */
 function groupPart(parts) {
-  const one = (part) => (
+  const partLink = (part) => (
     part.code ? element('a', { href: objectAddress('B3/S23', part.code) }, partsText([part])) : partsText([part])
   );
   return element('p', { class: 'group' },
     'A group of objects that do not change each other: ',
-    ...parts.flatMap((part, at) => [at === 0 ? '' : ' + ', one(part)]),
+    ...parts.flatMap((part, at) => [at === 0 ? '' : ' + ', partLink(part)]),
     '. The archive counts it as one object. ',
     element('a', { href: '/about#census' }, 'Why?'),
   );

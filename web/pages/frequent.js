@@ -20,7 +20,7 @@ export async function frequentParts(signal) {
   if (objects.length === 0) return [];
   const links = await Promise.all(objects.slice(0, SHOWN).map(async ({ code, count }) => {
     const parts = names.has(code) ? null : await partsOf(code);
-    return objectLink({ code, name: names.get(code) ?? (parts ? partsText(parts) : null), more: withCommas(count) });
+    return objectLink({ code, name: names.get(code) ?? (parts ? partsText(parts) : null), detail: withCommas(count) });
   }));
   return [element('section', { id: 'frequent' },
     element('h2', {}, 'Most frequent objects'),

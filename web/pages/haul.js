@@ -123,16 +123,16 @@ function lastRow(haul, most) {
  */
 function objectsOf(haul, labels) {
   const [body, foot] = [element('tbody'), element('tfoot')];
-  const more = element('button', { type: 'button' });
+  const moreButton = element('button', { type: 'button' });
   let objects = [];
   let most = 1;
   let shown = 0;
   const showUpTo = (end) => {
     body.append(...objects.slice(shown, end).map((object) => rowOf(object, most, haul, labels)));
     shown = Math.min(end, objects.length);
-    more.hidden = shown === objects.length;
+    moreButton.hidden = shown === objects.length;
     const next = Math.min(SHOWN, objects.length - shown);
-    more.textContent = `Show ${withCommas(next)} more of ${withCommas(objects.length)}`;
+    moreButton.textContent = `Show ${withCommas(next)} more of ${withCommas(objects.length)}`;
   };
   const show = () => {
     const end = Math.max(shown, SHOWN);
@@ -144,7 +144,7 @@ function objectsOf(haul, labels) {
     shown = 0;
     showUpTo(end);
   };
-  more.addEventListener('click', () => {
+  moreButton.addEventListener('click', () => {
     showUpTo(shown + SHOWN);
     keepEntryState({ shown });
   });
@@ -163,7 +163,7 @@ function objectsOf(haul, labels) {
       body,
       foot,
     ),
-    element('p', {}, more),
+    element('p', {}, moreButton),
   ];
 }
 
@@ -203,7 +203,7 @@ export async function haulPage(page) {
   const show = async (text, name) => {
     const names = await objectNames();
     const haul = text === null ? null : readTable(text);
-    const refused = element('p', { class: 'refusal', role: 'alert' }, `${name} is not a whole table of life-haul.`);
+    const refused = element('p', { class: 'refusal', role: 'alert' }, `${name} is not a complete table of life-haul.`);
     const labels = haul ? new Labels(haul.rule, names) : null;
     place.replaceChildren(...(haul ? shownHaul(haul, labels) : [refused]));
     labels?.findGroups(haul.objects, page.signal).catch(() => {});

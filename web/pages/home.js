@@ -100,8 +100,8 @@ export async function homePage(page) {
     ),
     chosenPart(page, chosen),
   );
-  const last = await deposits(page);
-  if (last === 0) page.root.querySelector('.examples a[href="/d/1"]').remove();
+  const lastNumber = await deposits(page);
+  if (lastNumber === 0) page.root.querySelector('.examples a[href="/d/1"]').remove();
   page.root.append(frequent);
   play(page, places, chosen.items.length > 0 ? chosen.items : [FIRST]);
   if ((await indexHead())?.counts.censuses > 0) addFrequent(page, frequent);

@@ -94,25 +94,26 @@ export function walk(page) {
 /** The first deposits of a list as cards, and a button that shows more. */
 export function shownRows(page, rows) {
   const list = element('div');
-  const more = element('button', { type: 'button', class: 'more' });
+  const moreButton = element('button', { type: 'button', class: 'more' });
   let shown = 0;
   const show = (number) => {
     list.append(cards(page, rows.slice(shown, shown + number)));
     shown = Math.min(shown + number, rows.length);
-    more.hidden = shown >= rows.length;
-    more.textContent = `Show ${withCommas(Math.min(SHOWN, rows.length - shown))} more of ${withCommas(rows.length)}`;
+    moreButton.hidden = shown >= rows.length;
+    const next = Math.min(SHOWN, rows.length - shown);
+    moreButton.textContent = `Show ${withCommas(next)} more of ${withCommas(rows.length)}`;
   };
-  more.addEventListener('click', () => {
+  moreButton.addEventListener('click', () => {
     show(SHOWN);
     keepEntryState({ shown });
   });
   show(entryState().shown ?? SHOWN);
   walk(page);
-  return [list, element('p', {}, more)];
+  return [list, element('p', {}, moreButton)];
 }
 
 const nothing = () => element('p', { class: 'empty' },
-  'There is nothing here yet. ',
+  'This list is still empty. ',
   element('a', { href: '/new' }, 'Make a deposit'),
   ' and be the first.',
 );
@@ -120,40 +121,40 @@ const nothing = () => element('p', { class: 'empty' },
 /**
  * The deposits after a number, the greatest first; without a number, the newest. Returns the greatest number of all.
  */
-export async function deposits(page, given) {
+export async function deposits(page, digits) {
   // The first page has its own heading.
   const isFirst = page.root.querySelector('h1') !== null;
-  page.title(isFirst ? '' : 'Deposits');
+  page.title(isFirst ? '' : `Deposits${digits === undefined ? '' : ` after ${withCommas(Number(digits))}`}`);
   page.root.append(isFirst ? element('h2', {}, 'Newest deposits') : element('h1', { tabindex: -1 }, 'Deposits'));
-  const last = await lastDeposit(page.signal);
-  const after = given === undefined ? Math.max(0, last - SHOWN) : Number(given);
+  const lastNumber = await lastDeposit(page.signal);
+  const after = digits === undefined ? Math.max(0, lastNumber - SHOWN) : Number(digits);
   const rows = (await depositsAfter(after, page.signal)).slice(0, SHOWN).reverse();
   walk(page);
   if (rows.length === 0) {
-    page.root.append(last === 0 ? nothing() : element('p', { class: 'empty' },
+    page.root.append(lastNumber === 0 ? nothing() : element('p', { class: 'empty' },
       `There is no deposit after ${withCommas(after)}; the newest is `,
-      element('a', { href: depositAddress(last) }, withCommas(last)),
+      element('a', { href: depositAddress(lastNumber) }, withCommas(lastNumber)),
       '.',
     ));
-    return last;
+    return lastNumber;
   }
   const [first, end] = [rows.at(-1).id, rows[0].id];
   page.root.append(
     element('p', { class: 'count' },
-      `${withCommas(first)} to ${withCommas(end)} of ${withCommas(Math.max(last, end))}`,
+      `${withCommas(first)} to ${withCommas(end)} of ${withCommas(Math.max(lastNumber, end))}`,
     ),
     cards(page, rows),
     pager(
       page,
       after > 0 ? afterAddress(Math.max(0, after - SHOWN)) : null,
-      end < last ? afterAddress(after + SHOWN) : null,
+      end < lastNumber ? afterAddress(after + SHOWN) : null,
     ),
     isFirst
       ? ''
       : element('p', {}, element('a', { href: '/l' }, 'Make a collection'), ' of deposits in an order of yours'),
   );
   page.say(`${plural(rows.length, 'deposit')}, ${first} to ${end}.`);
-  return last;
+  return lastNumber;
 }
 
 /** The deposits after a number, list by list up to the newest one. */

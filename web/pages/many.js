@@ -23,7 +23,7 @@ const DRAFT = 'many';
 const TOO_LONG = 1;
 
 /**
- * What is added to files: the name of the file, if a pattern has no name; an author, if it has none; and the folder of
+ * The additions to files: the name of the file, if a pattern has no name; an author, if it has none; and the folder of
  * the file as a comment.
  * @typedef {{ isNamed: boolean, author: string, hasFolder: boolean }} Additions
  */
@@ -36,7 +36,7 @@ class Row {
   kept = null;
   refused = null;
   where = '';
-  /** What the page made of the file; null before it is read. @type {import('../patterns/input.js').Given | null} */
+  /** The file as the page read it; null before that. @type {import('../patterns/input.js').Given | null} */
   read = null;
   choices = { asOld: true, isCut: false };
 
@@ -62,10 +62,10 @@ class Row {
     this.say();
   }
 
-  /** Reads the file again, as the member chose. @param {Partial<import('../patterns/input.js').Choices>} more */
-  choose(more) {
+  /** Reads the file again, as the member chose. @param {Partial<import('../patterns/input.js').Choices>} changes */
+  choose(changes) {
     if (!this.read || this.kept !== null) return;
-    Object.assign(this.choices, more);
+    Object.assign(this.choices, changes);
     this.#read();
     this.say();
   }
@@ -100,8 +100,8 @@ class Row {
   }
 
   /**
-   * The bytes to send: the file's, with what the member wants added.
-   * @param {Additions} more
+   * The bytes to send: those of the file, with the additions that the member chose.
+   * @param {Additions} additions
    */
   content({ isNamed, author, hasFolder }) {
     return withTexts(
@@ -141,7 +141,7 @@ class Row {
 }
 
 /**
- * What the window stores of a table: the member, and the name and the result of each file.
+ * The parts of a table that the window stores: the member, and the name and the result of each file.
  * @param {Row[]} rows
  * @param {string} member
  */
@@ -170,8 +170,8 @@ export function keptTable() {
 /**
  * Sends one file, and again as long as the archive only asks to wait. Returns whether it was stored or finally refused.
  */
-async function sendRow(row, member, more, page) {
-  const bytes = row.content(more);
+async function sendRow(row, member, additions, page) {
+  const bytes = row.content(additions);
   for (;;) {
     try {
       row.say('sending…');
@@ -269,7 +269,7 @@ export class Table {
       ),
       this.folders,
       this.old,
-      field('Author', this.author, 'Added to files without an author. Leave it empty to change nothing.'),
+      field('Author', this.author, 'Added to files without an author. Leave it empty to keep the files as they are.'),
       element('p', { class: 'row' }, this.send, this.bar),
     );
     this.root = element('section', { class: 'many' },
@@ -288,7 +288,7 @@ export class Table {
     for (const row of this.rows) groups.set(row.refused, [...groups.get(row.refused) ?? [], row]);
     const good = groups.get(null) ?? [];
     groups.delete(null);
-    const open = new Set([...this.tables.querySelectorAll('details[open]')].map((one) => one.dataset.reason));
+    const open = new Set([...this.tables.querySelectorAll('details[open]')].map((details) => details.dataset.reason));
     this.tables.replaceChildren(
       ...(good.length ? [tableOf(good, 'The files and their results')] : []),
       ...[...groups].map(([reason, rows]) => element('details', {
@@ -340,7 +340,7 @@ export class Table {
     this.instead.hidden = true;
     for (const row of rows) {
       if (row.kept === null && row.refused === null) {
-        row.refused = 'Not sent. Drop the files again: nothing is stored twice.';
+        row.refused = 'Not sent. Drop the files again: each is stored only once.';
       }
       row.say();
     }
@@ -365,8 +365,8 @@ export class Table {
   }
 
   /** Reads all files again. */
-  #choose(more) {
-    for (const row of this.rows) row.choose(more);
+  #choose(changes) {
+    for (const row of this.rows) row.choose(changes);
     this.#chosen();
   }
 
@@ -388,7 +388,7 @@ export class Table {
       await this.#learnOwner();
     } catch (error) {
       if (!this.page.signal.aborted) {
-        this.message.replaceChildren(refusal(error, 'Press the button again to continue: nothing is stored twice.'));
+        this.message.replaceChildren(refusal(error, 'Press the button again: each file is stored only once.'));
       }
     } finally {
       this.bar.hidden = true;
@@ -399,8 +399,8 @@ export class Table {
 
   /** Asks the archive whose the last deposit is: with passwords it is the member's who logged in. */
   async #learnOwner() {
-    const last = this.rows.filter((row) => row.kept !== null).at(-1);
-    const { row } = last ? await depositRows(last.kept, this.page.signal) : { row: null };
+    const lastRow = this.rows.filter((row) => row.kept !== null).at(-1);
+    const { row } = lastRow ? await depositRows(lastRow.kept, this.page.signal) : { row: null };
     if (!row) return;
     const text = learnMember(this.member.typed(), row.member);
     if (text) this.message.replaceChildren(element('p', { class: 'note' }, text));
@@ -410,10 +410,10 @@ export class Table {
 
   async #sendAll() {
     const open = this.open;
-    const more = { isNamed: this.name.checked, author: this.author.value, hasFolder: this.folder.checked };
+    const additions = { isNamed: this.name.checked, author: this.author.value, hasFolder: this.folder.checked };
     Object.assign(this.bar, { max: open.length, value: 0, hidden: false });
     for (const row of open) {
-      await sendRow(row, this.member.input.value, more, this.page);
+      await sendRow(row, this.member.input.value, additions, this.page);
       this.bar.value += 1;
       keepTable(this.rows, this.owner);
     }

@@ -31,7 +31,7 @@ class Content {
   bytes = new Uint8Array();
   fault = null;
   fileName = '';
-  /** What the page made of the file; null for an empty one. @type {import('../patterns/input.js').Given | null} */
+  /** The file as the page read it; null for an empty one. @type {import('../patterns/input.js').Given | null} */
   read = null;
   /** The last file without a fault, whose lines stay if its cells are edited. */
   #good = null;
@@ -99,14 +99,15 @@ class Content {
    */
   #read(shown, isNew = true) {
     this.read = this.input.length > 0 ? readGiven(this.input, this.choices) : null;
-    this.own = this.read?.bytes ?? this.input;
+    this.patternBytes = this.read?.bytes ?? this.input;
     this.record = this.read?.record ?? null;
     this.fault = this.read?.fault ?? null;
     if (shown) {
       this.text.value = new TextDecoder(this.read?.isOld && this.choices.asOld ? 'windows-1252' : 'utf-8')
         .decode(this.input);
     }
-    if (this.record || !this.read) this.#good = this.record && { bytes: this.own, record: this.record };
+    if (this.record) this.editor.rule = ruleText(this.record.rule);
+    if (this.record || !this.read) this.#good = this.record && { bytes: this.patternBytes, record: this.record };
     if (isNew && !this.fault) this.editor.show(this.record?.pattern ?? NO_PATTERN);
     // A text with a fault has no cells to draw; but what was drawn can still be undone.
     this.editor.root.hidden = isNew && this.fault !== null;
@@ -131,8 +132,8 @@ class Content {
     }, RESTED);
   }
 
-  #choose(more) {
-    Object.assign(this.choices, more);
+  #choose(changes) {
+    Object.assign(this.choices, changes);
     this.#read(true);
   }
 
@@ -156,12 +157,12 @@ class Content {
   } });
 
   /**
-   * What is sent: the bytes with a missing name and author added. The token is their digest, as in
+   * The bytes to send, with a missing name and author added. The token is their digest, as in
    * examples/scripts/put-folder.
    */
   #compose() {
     const { name, author } = this.texts;
-    this.bytes = this.record ? withTexts(this.own, this.record, name.value, author.value) : this.own;
+    this.bytes = this.record ? withTexts(this.patternBytes, this.record, name.value, author.value) : this.patternBytes;
     this.token.value = this.bytes.length === 0 || this.bytes.length > LONGEST_FILE ? '' : sumOf(this.bytes);
   }
 
@@ -273,11 +274,12 @@ async function send(content, { input: name, typed }, message, page) {
   };
   page.say('Sending…');
   message.replaceChildren(element('p', { class: 'waiting' }, 'Sending…'));
-  const last = await lastDeposit(page.signal).catch(() => 0);
+  const lastNumber = await lastDeposit(page.signal).catch(() => 0);
   const number = await sendDeposit(name.value, content.token.value, content.bytes, waiting, page.signal);
   page.say(`Stored as deposit ${number}.`);
   for (const name of ['pattern', 'text-name', 'text-author']) keepDraft(name, null);
-  keepNote(number, number > last ? 'Deposited.' : 'You had already deposited this; it keeps its number.', typed());
+  const text = number > lastNumber ? 'Deposited.' : 'You had already deposited this; it keeps its number.';
+  keepNote(number, text, typed());
   go(depositAddress(number));
 }
 

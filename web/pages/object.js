@@ -121,9 +121,9 @@ function lookUp(code, rule, { isGroup, name }) {
 
 /** An object as a pattern file, with its name and its address. */
 function textOf(pattern, code, rule, title) {
-  const own = new TextEncoder().encode(fileOf(pattern, rule));
+  const bytes = new TextEncoder().encode(fileOf(pattern, rule));
   return new TextDecoder().decode(withOrigin(
-    own,
+    bytes,
     {},
     { title, origin: `${code} of ${rule}, ${location.origin}${objectAddress(rule, code)}` },
   ));

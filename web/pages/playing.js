@@ -17,10 +17,10 @@ export class Playing {
   canvas = element('canvas', { id: 'playing', role: 'img' });
   link = element('a', {});
   pause = element('button', { type: 'button', id: 'pause', hidden: true, click: () => this.#toggle() });
-  /** What it begins with: the generation and its record; and the generation at which it begins again. */
+  /** The first generation that it plays, with its record; and the generation at which it starts over. */
   first = 0;
   record = null;
-  last = LAST;
+  lastGeneration = LAST;
   #turn = null;
   #view = { left: 0, top: 0, size: 1 };
 
@@ -47,10 +47,13 @@ export class Playing {
     const { signal } = this.page;
     for (const { number, at } of items) {
       try {
-        const [own, later] = await Promise.all([deposit(number, signal), at ? generation(number, at, signal) : null]);
-        this.record = (later ?? own).record;
-        [this.first, this.last] = [at, Math.min(at + LAST, GENERATION_LIMIT)];
-        this.name = own.record.name ?? `Deposit ${withCommas(number)}`;
+        const [original, later] = await Promise.all([
+          deposit(number, signal),
+          at ? generation(number, at, signal) : null,
+        ]);
+        this.record = (later ?? original).record;
+        [this.first, this.lastGeneration] = [at, Math.min(at + LAST, GENERATION_LIMIT)];
+        this.name = original.record.name ?? `Deposit ${withCommas(number)}`;
         this.#begin(depositAddress(number, at));
         return true;
       } catch (error) {
@@ -108,7 +111,7 @@ export class Playing {
   }
 
   async #step() {
-    if (this.at === this.last) {
+    if (this.at === this.lastGeneration) {
       this.maker.begin(this.record, this.first);
       this.at = this.first - 1;
     }

@@ -11,7 +11,7 @@ const SHORTEST = 16;
 export class Plot {
   #populations = new Float64Array(GENERATION_LIMIT + 1).fill(-1);
   #most = 1;
-  #last = 0;
+  #lastGeneration = 0;
   #at = 0;
   #asked = false;
 
@@ -28,7 +28,7 @@ export class Plot {
 
   /** How many generations the axis has: as many as are known. */
   get #length() {
-    return Math.max(SHORTEST, this.#last);
+    return Math.max(SHORTEST, this.#lastGeneration);
   }
 
   /** Takes the population of a generation that is shown. */
@@ -53,7 +53,7 @@ export class Plot {
   #put(at, population) {
     this.#populations[at] = population;
     this.#most = Math.max(this.#most, population);
-    this.#last = Math.max(this.#last, at);
+    this.#lastGeneration = Math.max(this.#lastGeneration, at);
   }
 
   #draw() {
@@ -72,7 +72,7 @@ export class Plot {
     this.canvas.height = HEIGHT;
     const x = (at) => at / this.#length * (width - 1);
     context.fillStyle = style.getPropertyValue('--quiet');
-    for (let at = 0; at <= this.#last; at += 1) {
+    for (let at = 0; at <= this.#lastGeneration; at += 1) {
       const population = this.#populations[at];
       if (population >= 0) {
         context.fillRect(
@@ -89,7 +89,8 @@ export class Plot {
   }
 
   #describe() {
-    const text = `Population of generations 0 to ${withCommas(this.#last)}: at most ${withCommas(this.#most)}`;
+    const [end, most] = [this.#lastGeneration, this.#most].map(withCommas);
+    const text = `Population of generations 0 to ${end}: at most ${most}`;
     this.canvas.setAttribute('aria-label', text);
     this.words.replaceChildren(`${text}. Computed by your browser; press to go there.`);
   }

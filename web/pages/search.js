@@ -14,17 +14,17 @@ const RANGES = [['cells', 'Cells', 'number'], ['side', 'Longer side', 'number'],
 /** The query in an address, such as `text=glider&cells=5..10`. */
 function askedBy(query) {
   const words = new URLSearchParams(query);
-  const one = (name) => words.get(name) ?? '';
-  const two = (name) => [0, 1].map((at) => one(name).split('..')[at] ?? '');
-  const rule = readRule(one('rule'));
+  const valueOf = (name) => words.get(name) ?? '';
+  const rangeOf = (name) => [0, 1].map((at) => valueOf(name).split('..')[at] ?? '');
+  const rule = readRule(valueOf('rule'));
   return {
-    text: one('text'),
-    member: one('member').toLowerCase(),
-    author: one('author'),
-    rule: typeof rule === 'string' ? one('rule') : ruleText(rule),
-    cells: two('cells'),
-    side: two('side'),
-    day: two('day'),
+    text: valueOf('text'),
+    member: valueOf('member').toLowerCase(),
+    author: valueOf('author'),
+    rule: typeof rule === 'string' ? valueOf('rule') : ruleText(rule),
+    cells: rangeOf('cells'),
+    side: rangeOf('side'),
+    day: rangeOf('day'),
   };
 }
 
@@ -73,11 +73,11 @@ export function searchForm(asked = NOTHING) {
   const all = [...fields, ...RANGES.map((range) => rangeField(range, asked[range[0]]))];
   const submit = (event) => {
     event.preventDefault();
-    const [words, more] = [text.value.trim(), Object.fromEntries(all.map(({ name, value }) => [name, value()]))];
+    const [words, fieldValues] = [text.value.trim(), Object.fromEntries(all.map(({ name, value }) => [name, value()]))];
     // As in the search box of other pages, a code, a number or a rule leads to its page. Other words are searched for,
     // with the fields.
     const address = addressOf(words);
-    go(words === '' || isSearch(address) ? searchAddress({ text: words, ...more }) : address);
+    go(words === '' || isSearch(address) ? searchAddress({ text: words, ...fieldValues }) : address);
   };
   const open = asked === NOTHING || all.some(({ value }) => [value()].flat().some(Boolean));
   return element('form', { class: 'search', role: 'search', submit },

@@ -76,8 +76,9 @@ export class Sequence {
     this.link.href = entry.address;
     this.mark();
     this.#begin(entry.item.number, signal);
-    this.#name();
-    entry.load().then(() => this.#name(), () => {});
+    const name = () => { if (!signal.aborted) this.link.replaceChildren(entry.title); };
+    name();
+    entry.load().then(name, () => {});
     if (!await this.player.show(entry.item.at) || signal.aborted) return;
     this.view.fit();
     this.page.say(`${this.place.textContent}: ${entry.title}. ${entry.item.caption}`);
@@ -85,8 +86,10 @@ export class Sequence {
     else this.player.preload();
   }
 
-  #name() {
-    this.link.replaceChildren(this.entry.title);
+  /** Shows no entry, until the next one is added to an empty collection. */
+  end() {
+    this.#end.abort();
+    this.entry = null;
   }
 
   /** A player for a deposit, with its own controls. */
@@ -100,7 +103,7 @@ export class Sequence {
     Object.assign(this.page.keys, { '[': before, ']': next });
   }
 
-  // ---- what the player calls
+  // ---- calls from the player
 
   shown(at, { pattern }, bytes, place) {
     const put = this.view.show(pattern, place);

@@ -18,13 +18,13 @@ import { fileOf, originOf, withOrigin } from '../patterns/writer.js';
 export class Share {
   /**
    * @param {number} number
-   * @param {{ bytes: Uint8Array, record: object }} own the deposit itself
+   * @param {{ bytes: Uint8Array, record: object }} original the deposit itself
    * @param {object} page
    */
-  constructor(number, own, page) {
+  constructor(number, original, page) {
     this.number = number;
-    this.own = own;
-    this.first = own.record;
+    this.original = original;
+    this.first = original.record;
     this.name = this.first.name ?? `Deposit ${number}`;
     this.page = page;
     this.address = element('a', { class: 'address' });
@@ -48,9 +48,9 @@ export class Share {
   /** Sets the generation that is shown. If the page computed it, it has no bytes, and only its pattern is known. */
   take(at, bytes, record) {
     // Only the deposit itself has its texts.
-    this.seen = at === 0 ? { at, ...this.own } : { at, bytes, record: { ...record, rule: this.first.rule } };
+    this.seen = at === 0 ? { at, ...this.original } : { at, bytes, record: { ...record, rule: this.first.rule } };
     if (bytes === null) return;
-    this.whole = this.seen;
+    this.answer = this.seen;
     this.address.href = this.url;
     this.address.replaceChildren(this.url);
     this.load.href = at === 0 ? `/deposits/${this.number}` : `/deposits/${this.number}/at/${at}`;
@@ -87,8 +87,8 @@ export class Share {
 
   /** Opens the form for a deposit with these cells. They say where they are from, but have no name yet. */
   #edit() {
-    const own = new TextEncoder().encode(fileOf(this.seen.record.pattern, ruleText(this.first.rule)));
-    passFiles([new Blob([withOrigin(own, {}, { title: null, origin: this.from.origin })])]);
+    const bytes = new TextEncoder().encode(fileOf(this.seen.record.pattern, ruleText(this.first.rule)));
+    passFiles([new Blob([withOrigin(bytes, {}, { title: null, origin: this.from.origin })])]);
     go('/new');
   }
 
@@ -107,12 +107,12 @@ export class Share {
   }
 
   #fill() {
-    if (this.details.open) this.text.value = new TextDecoder().decode(this.whole.bytes);
+    if (this.details.open) this.text.value = new TextDecoder().decode(this.answer.bytes);
   }
 
   /** Offers to deposit the generation, so that playing can continue from there. */
   depositPart() {
-    const { pattern } = this.whole.record;
+    const { pattern } = this.answer.record;
     if (Math.max(pattern.width, pattern.height) > LONGEST_SIDE) {
       return element('span', {},
         `It is ${withCommas(pattern.width)} by ${withCommas(pattern.height)}, `
@@ -152,9 +152,9 @@ export class Share {
   #collect() {
     const { title, items } = readCollection(draft(COLLECTION)?.slice('/l/'.length) ?? '');
     const item = { number: this.number, at: this.at, caption: '' };
-    const more = collectionAddress({ title, items: [...items, item] });
-    const isFull = items.length >= MOST_ITEMS || more.length > LONGEST_ADDRESS;
-    const address = isFull ? collectionAddress({ title: '', items: [item] }) : more;
+    const longerAddress = collectionAddress({ title, items: [...items, item] });
+    const isFull = items.length >= MOST_ITEMS || longerAddress.length > LONGEST_ADDRESS;
+    const address = isFull ? collectionAddress({ title: '', items: [item] }) : longerAddress;
     keepDraft(COLLECTION, address);
     go(address);
   }
@@ -174,14 +174,14 @@ export class Share {
     );
   }
 
-  /** What is done with the generation that is seen: its address, its text, files of it. */
+  /** The actions for the visible generation: its address, its text, files of it. */
   part() {
     const copied = () => {
       const text = new TextDecoder().decode(this.file);
       keepDraft(COPIED, text);
       return text;
     };
-    // Conway's Life forums play what is between these marks.
+    // The forums at conwaylife.com play a pattern between these marks.
     const forum = () => `[viewer]\n${copied()}[/viewer]\n[url]${this.url}[/url]\n`;
     const { say } = this.page;
     return element('section', { class: 'share' },

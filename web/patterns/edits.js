@@ -1,4 +1,4 @@
-// Editing cells: what each tool makes of a drawing, and undoing it. Nothing here changes what it is given.
+// Editing cells: each tool makes a new drawing, and steps can be undone. No function changes its arguments.
 
 import { rowsOf } from './turns.js';
 import { normal } from './rle.js';
@@ -28,38 +28,38 @@ export const EMPTY = { base: NO_CELLS, lifted: NO_CELLS, box: null };
 /**
  * A row of two rows: `is` says of a cell whether it is live, from whether it is in each of them. Where runs begin and
  * end, a row changes between dead and live.
- * @param {readonly number[]} one
- * @param {readonly number[]} other
+ * @param {readonly number[]} runs
+ * @param {readonly number[]} otherRuns
  * @param {(inOne: boolean, inOther: boolean) => boolean} is
  */
-function combinedRuns(one, other, is) {
+function combinedRuns(runs, otherRuns, is) {
   const found = [];
   let [at, to] = [0, 0];
-  while (at < one.length || to < other.length) {
-    const column = Math.min(one[at] ?? Infinity, other[to] ?? Infinity);
-    if (one[at] === column) at += 1;
-    if (other[to] === column) to += 1;
+  while (at < runs.length || to < otherRuns.length) {
+    const column = Math.min(runs[at] ?? Infinity, otherRuns[to] ?? Infinity);
+    if (runs[at] === column) at += 1;
+    if (otherRuns[to] === column) to += 1;
     if (is(at % 2 === 1, to % 2 === 1) !== (found.length % 2 === 1)) found.push(column);
   }
   return found;
 }
 
-/** The same of all rows. @param {Plane} one @param {Plane} other @returns {Plane} */
-function combined(one, other, is) {
+/** The same of all rows. @param {Plane} plane @param {Plane} other @returns {Plane} */
+function combined(plane, other, is) {
   const all = new Map();
-  for (const row of new Set([...one.keys(), ...other.keys()])) {
-    const runs = combinedRuns(one.get(row) ?? NO_RUNS, other.get(row) ?? NO_RUNS, is);
+  for (const row of new Set([...plane.keys(), ...other.keys()])) {
+    const runs = combinedRuns(plane.get(row) ?? NO_RUNS, other.get(row) ?? NO_RUNS, is);
     if (runs.length > 0) all.set(row, runs);
   }
   return all;
 }
 
-/** @param {Plane} one @param {Plane} other */
-export const union = (one, other) => combined(one, other, (inOne, inOther) => inOne || inOther);
-/** @param {Plane} one @param {Plane} other */
-export const without = (one, other) => combined(one, other, (inOne, inOther) => inOne && !inOther);
-/** @param {Plane} one @param {Plane} other */
-const common = (one, other) => combined(one, other, (inOne, inOther) => inOne && inOther);
+/** @param {Plane} plane @param {Plane} other */
+export const union = (plane, other) => combined(plane, other, (inOne, inOther) => inOne || inOther);
+/** @param {Plane} plane @param {Plane} other */
+export const without = (plane, other) => combined(plane, other, (inOne, inOther) => inOne && !inOther);
+/** @param {Plane} plane @param {Plane} other */
+const common = (plane, other) => combined(plane, other, (inOne, inOther) => inOne && inOther);
 
 /** All cells of a drawing. @param {Drawing} drawing */
 export const cellsIn = ({ base, lifted }) => (lifted.size === 0 ? base : union(base, lifted));
@@ -119,7 +119,7 @@ export const planeOf = (pattern, { column, row }) => (
 /** Cells as a pattern, and where its corner is. @param {Plane} plane */
 export function patternOf(plane) {
   const box = boxAround(plane);
-  const rows = new Map([...plane].sort(([one], [other]) => one - other));
+  const rows = new Map([...plane].sort(([row], [other]) => row - other));
   return { pattern: normal(rows), place: { column: box?.left ?? 0, row: box?.top ?? 0 } };
 }
 
@@ -132,23 +132,23 @@ export function lineBetween([column, row], [toColumn, toRow]) {
   ]);
 }
 
-// ---- what the tools do
+// ---- the tools
 
 /** The same cells with nothing selected. @param {Drawing} drawing @returns {Drawing} */
 export const unselected = (drawing) => ({ base: cellsIn(drawing), lifted: NO_CELLS, box: null });
 
 /** With some cells drawn or erased. @param {Drawing} drawing @param {Iterable<[number, number]>} cells */
 export function drawn(drawing, cells, isLive) {
-  const own = unselected(drawing);
-  return { ...own, base: (isLive ? union : without)(own.base, rowsOf(cells)) };
+  const plainDrawing = unselected(drawing);
+  return { ...plainDrawing, base: (isLive ? union : without)(plainDrawing.base, rowsOf(cells)) };
 }
 
 /** With the cells of a box selected. @param {Drawing} drawing @param {Box | null} box @returns {Drawing} */
 export function selected(drawing, box) {
-  const own = unselected(drawing);
-  if (!box) return own;
-  const lifted = common(own.base, planeOfBox(box));
-  return { base: without(own.base, lifted), lifted, box };
+  const plainDrawing = unselected(drawing);
+  if (!box) return plainDrawing;
+  const lifted = common(plainDrawing.base, planeOfBox(box));
+  return { base: without(plainDrawing.base, lifted), lifted, box };
 }
 
 /** With everything selected. @param {Drawing} drawing */

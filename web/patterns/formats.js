@@ -5,7 +5,7 @@ import { LONGEST_SIDE, LONGEST_TEXT, MOST_COMMENTS } from '../shared/limits.js';
 import { fileOf } from './writer.js';
 
 /**
- * What the form of a file is called, and what it is as RLE.
+ * The name of a file's form, and the file as RLE.
  * @typedef {{ form: string, text: string }} Read
  */
 
@@ -22,7 +22,7 @@ import { fileOf } from './writer.js';
 function patternOf(cells) {
   const [left, top] = [0, 1].map((side) => cells.reduce((least, cell) => Math.min(least, cell[side]), Infinity));
   const near = cells.map(([column, row]) => [Math.min(column - left, LONGEST_SIDE), Math.min(row - top, LONGEST_SIDE)]);
-  near.sort((one, other) => one[1] - other[1] || one[0] - other[0]);
+  near.sort((cell, other) => cell[1] - other[1] || cell[0] - other[0]);
   const found = { width: 0, height: near.length ? near.at(-1)[1] + 1 : 0, rows: /** @type {number[][]} */ ([]) };
   found.rows = Array.from({ length: found.height }, () => []);
   for (const [column, row] of near) {
@@ -70,11 +70,12 @@ function commentLines(comments) {
  */
 function notesOf(comments) {
   const named = comments.map((comment) => /^(name|author)\s*:\s*(.*)$/i.exec(comment));
-  const one = (key, mark) => named
+  const markedText = (key, mark) => named
     .filter((found) => found?.[1].toLowerCase() === key && found[2])
     .slice(0, 1)
     .map((found) => `${mark} ${found[2]}`);
-  return [...one('name', '#N'), ...one('author', '#O'), ...commentLines(comments.filter((_, at) => !named[at]))];
+  const unnamed = comments.filter((_, at) => !named[at]);
+  return [...markedText('name', '#N'), ...markedText('author', '#O'), ...commentLines(unnamed)];
 }
 
 /**
@@ -170,9 +171,9 @@ export function insideMarks(text) {
   return opening && [opening[0].length, CLOSING.exec(text)?.index ?? text.length];
 }
 
-/** Whether a text can be a pattern: what is pasted on a page may be anything. @param {string} given */
-export function mayBePattern(given) {
-  const text = given.slice(...insideMarks(given) ?? []);
+/** Whether a text can be a pattern: anything may be pasted on a page. @param {string} pastedText */
+export function mayBePattern(pastedText) {
+  const text = pastedText.slice(...insideMarks(pastedText) ?? []);
   return /^\s*(#|x\s*=)/i.test(text) || readOther(text) !== null;
 }
 

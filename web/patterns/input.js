@@ -16,11 +16,11 @@ const encoded = (text) => new TextEncoder().encode(text);
 /**
  * @typedef {object} Given
  * @property {Uint8Array} bytes what to send, without a name and an author that the member adds
- * @property {object | null} record what the file says; null if it has a fault
+ * @property {object | null} record the record of the file; null if it has a fault
  * @property {Fault | null} fault
  * @property {string | null} line the line that has the fault, if it can be shown
  * @property {boolean} isOld whether the file is not UTF-8
- * @property {string[]} notes what the page changed
+ * @property {string[]} notes the changes that the page made
  */
 
 /**
@@ -113,7 +113,7 @@ function readConverted(other, choices) {
   }
 }
 
-/** What is said if marks around a pattern, such as `[code]`, are left out. */
+/** The note if marks around a pattern, such as `[code]`, are left out. */
 const MARKED = 'The marks around the pattern are not sent.';
 
 /**
@@ -123,18 +123,19 @@ const MARKED = 'The marks around the pattern are not sent.';
  */
 export function readGiven(bytes, choices) {
   const old = readOld(bytes);
-  const whole = old !== null && choices.asOld ? encoded(old) : bytes;
+  const utf8Bytes = old !== null && choices.asOld ? encoded(old) : bytes;
   const isOld = old !== null;
-  const text = new TextDecoder('latin1').decode(whole);
+  const text = new TextDecoder('latin1').decode(utf8Bytes);
   const inside = insideMarks(text);
-  const own = inside ? whole.slice(...inside) : whole;
+  const patternBytes = inside ? utf8Bytes.slice(...inside) : utf8Bytes;
   try {
-    const read = readAny(own, choices);
+    const read = readAny(patternBytes, choices);
     return { ...read, isOld, fault: null, line: null, notes: [...(inside ? [MARKED] : []), ...read.notes] };
   } catch (error) {
     if (!(error instanceof Fault)) throw error;
     const before = inside ? text.slice(0, inside[0]).split('\n').length - 1 : 0;
-    return { bytes: own, record: null, isOld, fault: error, line: lineOf(own, error.line, before), notes: [] };
+    const line = lineOf(patternBytes, error.line, before);
+    return { bytes: patternBytes, record: null, isOld, fault: error, line, notes: [] };
   }
 }
 

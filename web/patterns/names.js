@@ -31,7 +31,7 @@ export const pathOf = (file) => file.webkitRelativePath || file.relativePath || 
 /** The pattern files of a folder, ordered by path: those with an ending of a form that formats.js reads. */
 export const patternsOf = (files) => files
   .filter(({ name }) => /\.(rle|cells|lif|life)$/i.test(name))
-  .sort((one, other) => (pathOf(one) < pathOf(other) ? -1 : 1));
+  .sort((file, other) => (pathOf(file) < pathOf(other) ? -1 : 1));
 
 /** The name of a file without folders and extension: `gosper-gun` for `guns/gosper-gun.rle`. */
 export const baseName = (name) => oneLine(name.split('/').at(-1).replace(/\.(rle|cells|lif|life|txt)$/i, ''));
@@ -76,7 +76,7 @@ export async function filesOf(entry, folder = '') {
   for (;;) {
     const entries = await new Promise((resolve, reject) => { reader.readEntries(resolve, reject); });
     if (entries.length === 0) {
-      return patternsOf((await Promise.all(found.map((one) => filesOf(one, `${folder}${entry.name}/`)))).flat());
+      return patternsOf((await Promise.all(found.map((child) => filesOf(child, `${folder}${entry.name}/`)))).flat());
     }
     found.push(...entries);
   }

@@ -46,8 +46,8 @@ function following(cells, rule = LIFE) {
   return next;
 }
 
-/** @param {Cells} one @param {Cells} other */
-const isEqual = (one, other) => one.size === other.size && [...one].every((cell) => other.has(cell));
+/** @param {Cells} cells @param {Cells} other */
+const isEqual = (cells, other) => cells.size === other.size && [...cells].every((cell) => other.has(cell));
 
 /**
  * The generations from 0 to a period.
@@ -68,10 +68,10 @@ function phasesOf(cells, period, rule) {
 function piecesOf(cells) {
   const left = new Set(cells);
   const pieces = [];
-  for (const cell of cells) {
-    if (!left.delete(cell)) continue;
-    const piece = [cell];
-    for (const one of piece) for (const step of ROUND) if (left.delete(one + step)) piece.push(one + step);
+  for (const start of cells) {
+    if (!left.delete(start)) continue;
+    const piece = [start];
+    for (const cell of piece) for (const step of ROUND) if (left.delete(cell + step)) piece.push(cell + step);
     pieces.push(new Set(piece));
   }
   return pieces;
@@ -79,25 +79,24 @@ function piecesOf(cells) {
 
 /**
  * Whether two pieces change each other, that is, evolve differently together than alone.
- * @param {Cells[]} one the phases of one
- * @param {Cells[]} other
+ * @param {Cells[]} phases the phases of one piece
+ * @param {Cells[]} otherPhases
  */
-function changes(one, other) {
-  let both = new Set([...one[0], ...other[0]]);
-  for (let at = 1; at < one.length; at += 1) {
+function changes(phases, otherPhases) {
+  let both = new Set([...phases[0], ...otherPhases[0]]);
+  for (let at = 1; at < phases.length; at += 1) {
     both = following(both);
-    if (both.size !== one[at].size + other[at].size || [...one[at], ...other[at]].some((cell) => !both.has(cell))) {
-      return true;
-    }
+    const apart = [...phases[at], ...otherPhases[at]];
+    if (both.size !== apart.length || apart.some((cell) => !both.has(cell))) return true;
   }
   return false;
 }
 
 /** Two pieces that change each other; nothing if there are none. */
 function changing(phases) {
-  for (let one = 0; one < phases.length; one += 1) {
-    for (let other = one + 1; other < phases.length; other += 1) {
-      if (changes(phases[one], phases[other])) return [one, other];
+  for (let index = 0; index < phases.length; index += 1) {
+    for (let otherIndex = index + 1; otherIndex < phases.length; otherIndex += 1) {
+      if (changes(phases[index], phases[otherIndex])) return [index, otherIndex];
     }
   }
   return null;
@@ -116,16 +115,19 @@ function objectsOf(cells, period) {
     const phases = pieces.map((piece) => phasesOf(piece, period));
     const pair = changing(phases);
     if (!pair) return isWhole(cells, phases, period) ? pieces : null;
-    const [one, other] = pair;
-    pieces = [...pieces.filter((_, at) => at !== one && at !== other), new Set([...pieces[one], ...pieces[other]])];
+    const [index, otherIndex] = pair;
+    const joined = new Set([...pieces[index], ...pieces[otherIndex]]);
+    pieces = [...pieces.filter((_, at) => at !== index && at !== otherIndex), joined];
     if (pieces.length === 1) return null;
   }
 }
 
 /** Whether the objects add up to the whole in every phase, and each is periodic. */
 function isWhole(cells, phases, period) {
-  return phases.every((own) => isEqual(own[0], own[period]))
-    && phasesOf(cells, period).every((whole, at) => isEqual(whole, new Set(phases.flatMap((own) => [...own[at]]))));
+  return phases.every((objectPhases) => isEqual(objectPhases[0], objectPhases[period]))
+    && phasesOf(cells, period).every((clusterCells, at) => (
+      isEqual(clusterCells, new Set(phases.flatMap((objectPhases) => [...objectPhases[at]])))
+    ));
 }
 
 /**
@@ -134,7 +136,7 @@ function isWhole(cells, phases, period) {
  */
 function textOf(cells) {
   const [left, top] = [0, 1].map((side) => Math.min(...cells.map((cell) => cell[side])));
-  return cells.map(([column, row]) => (row - top) * WIDTH + column - left).sort((one, other) => one - other).join();
+  return cells.map(([column, row]) => (row - top) * WIDTH + column - left).sort((cell, other) => cell - other).join();
 }
 
 /** @param {Cells} cells @returns {[number, number][]} */
@@ -210,17 +212,17 @@ export async function partsOf(code) {
   const parts = new Map();
   for (const object of objects) {
     const text = textOf(placesOf(object));
-    const own = byText.get(text) ?? null;
-    const part = parts.get(own ?? text) ?? {
-      code: own,
-      name: own ? names.get(own) : null,
+    const knownCode = byText.get(text) ?? null;
+    const part = parts.get(knownCode ?? text) ?? {
+      code: knownCode,
+      name: knownCode ? names.get(knownCode) : null,
       cells: object.size,
       count: 0,
     };
     part.count += 1;
-    parts.set(own ?? text, part);
+    parts.set(knownCode ?? text, part);
   }
-  return [...parts.values()].sort((one, other) => other.count - one.count || other.cells - one.cells);
+  return [...parts.values()].sort((part, other) => other.count - part.count || other.cells - part.cells);
 }
 
 /** @param {string} name */
@@ -234,11 +236,11 @@ function pluralOf(name) {
  * @param {Part[]} parts
  */
 export function partsText(parts) {
-  const one = ({ name, cells, count }) => {
+  const partText = ({ name, cells, count }) => {
     if (name) return count === 1 ? name : `${count} ${pluralOf(name)}`;
     return `${count === 1 ? 'an object' : `${count} objects`} of ${cells} cells`;
   };
-  return parts.map(one).join(' + ');
+  return parts.map(partText).join(' + ');
 }
 
 /**

@@ -63,14 +63,14 @@ export function* cellsOf(pattern) {
 }
 
 /** Whether two patterns have the same cells. */
-export function isSame(one, other) {
-  return one.width === other.width && one.height === other.height && one.population === other.population
-    && one.rows.every((runs, row) => (
+export function isSame(pattern, other) {
+  return pattern.width === other.width && pattern.height === other.height && pattern.population === other.population
+    && pattern.rows.every((runs, row) => (
       runs.length === other.rows[row].length && runs.every((column, at) => column === other.rows[row][at])
     ));
 }
 
-const divisor = (one, other) => (other === 0 ? one : divisor(other, one % other));
+const divisor = (number, other) => (other === 0 ? number : divisor(other, number % other));
 
 /**
  * The speed of a spaceship that moves by columns and rows in a period, as it is usually written: `c/4 diagonal`,
@@ -80,10 +80,10 @@ const divisor = (one, other) => (other === 0 ? one : divisor(other, one % other)
  * @param {number} period
  */
 export function speedText(columns, rows, period) {
-  const [near, far] = [Math.abs(columns), Math.abs(rows)].sort((one, other) => one - other);
+  const [near, far] = [Math.abs(columns), Math.abs(rows)].sort((distance, other) => distance - other);
   const common = divisor(divisor(far, near), period);
-  const [less, more, time] = [near, far, period].map((number) => number / common);
+  const [shortWay, longWay, time] = [near, far, period].map((number) => number / common);
   const over = time === 1 ? 'c' : `c/${time}`;
-  if (less !== 0 && less !== more) return `(${more},${less})${over}`;
-  return `${more === 1 ? '' : more}${over} ${less === 0 ? 'orthogonal' : 'diagonal'}`;
+  if (shortWay !== 0 && shortWay !== longWay) return `(${longWay},${shortWay})${over}`;
+  return `${longWay === 1 ? '' : longWay}${over} ${shortWay === 0 ? 'orthogonal' : 'diagonal'}`;
 }

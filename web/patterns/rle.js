@@ -1,5 +1,5 @@
 // Pattern files (docs/FORMATS.md, Pattern files): the record of a file, or its first fault and the line that has it.
-// The archive checks what is deposited; the pages use this to draw a file before, and to draw the archive's answers.
+// The archive checks deposits; the pages use this to draw a file before, and to draw the archive's answers.
 
 import { GREATEST_COUNT, LONGEST_FILE, LONGEST_SIDE, LONGEST_TEXT, MOST_COMMENTS } from '../shared/limits.js';
 import { LIFE, readRule } from './rule.js';
@@ -11,11 +11,11 @@ export class Fault extends Error {
   /** The text of a rule that the archive doesn't take. */
   rule = '';
 
-  constructor(number, line = 0, more = {}) {
+  constructor(number, line = 0, details = {}) {
     super(`fault ${number} of a pattern file`);
     this.number = number;
     this.line = line;
-    Object.assign(this, more);
+    Object.assign(this, details);
   }
 }
 
@@ -169,9 +169,9 @@ export function readFile(bytes, { ours = false, isCut = false } = {}) {
   const notes = new Notes(isCut);
   const body = new Body(ours ? Infinity : LONGEST_SIDE - 1);
   let rule = null;
-  let last = 0;
+  let lastLine = 0;
   for (const line of linesOf(bytes)) {
-    last = line.number;
+    lastLine = line.number;
     const bare = line.text.replace(/^[ \t\r]+/, '');
     if (bare === '') continue;
     if (bare.startsWith('#')) {
@@ -188,7 +188,7 @@ export function readFile(bytes, { ours = false, isCut = false } = {}) {
     }
   }
   if (rule === null) throw new Fault(3, 0);
-  if (!body.ended) throw new Fault(body.counted ? 8 : 10, last);
+  if (!body.ended) throw new Fault(body.counted ? 8 : 10, lastLine);
   return {
     name: notes.name,
     author: notes.author,

@@ -36,9 +36,9 @@ export function rowsOf(cells) {
     columns.get(row).add(column);
   }
   const rows = new Map();
-  for (const row of [...columns.keys()].sort((one, other) => one - other)) {
+  for (const row of [...columns.keys()].sort((number, other) => number - other)) {
     const runs = [];
-    for (const column of [...columns.get(row)].sort((one, other) => one - other)) {
+    for (const column of [...columns.get(row)].sort((number, other) => number - other)) {
       if (runs.at(-1) === column) runs[runs.length - 1] = column + 1;
       else runs.push(column, column + 1);
     }
@@ -62,11 +62,11 @@ export const sidesOf = ({ width, height }) => [Math.min(width, height), Math.max
 /**
  * By which turn or reflection one pattern is another one, wherever they are: its name, which is empty if they are equal
  * without one; null if by none.
- * @param {object} one
+ * @param {object} pattern
  * @param {object} other
  * @returns {string | null}
  */
-export function turnBetween(one, other) {
-  if (one.population !== other.population || sidesOf(one) !== sidesOf(other)) return null;
-  return NAMED_TURNS.find(([, turn]) => isSame(turned(one, turn), other))?.[0] ?? null;
+export function turnBetween(pattern, other) {
+  if (pattern.population !== other.population || sidesOf(pattern) !== sidesOf(other)) return null;
+  return NAMED_TURNS.find(([, turn]) => isSame(turned(pattern, turn), other))?.[0] ?? null;
 }

@@ -65,7 +65,7 @@ export const originOf = (number, at, url) => (
  * A file with a `#C` line about its origin in front of its header, and with a name if it has none. The line is left out
  * if the archive would refuse it.
  * @param {Uint8Array} bytes a file from the archive, or one that `fileOf` wrote
- * @param {{ name?: string | null, author?: string | null, comments?: string[] }} record what the file says
+ * @param {{ name?: string | null, author?: string | null, comments?: string[] }} record the record of the file
  * @param {{ title: string | null, origin: string }} from
  * @returns {Uint8Array}
  */

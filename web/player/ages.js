@@ -28,7 +28,7 @@ export class Ages {
   isOn = false;
   #wanted = 0;
   /** The ages that were computed last, and their generation. */
-  #last = null;
+  #lastAges = null;
 
   /** `made(at)` returns a generation that the page computes; `listener` gets the ages of the one shown, or null. */
   constructor(made, listener) {
@@ -60,18 +60,18 @@ export class Ages {
    * @param {boolean} mayBeginAnew whether to try again if the page restarted its generations meanwhile
    */
   async #find(at, mayBeginAnew = true) {
-    let { found, of } = this.#last ?? { found: null, of: -Infinity };
+    let { found, of } = this.#lastAges ?? { found: null, of: -Infinity };
     if (of > at || at - of >= OLDEST) [found, of] = [null, Math.max(0, at - OLDEST + 1) - 1];
     for (of += 1; of <= at; of += 1) {
       const made = await this.made(of);
       // Positions from two different starts can't be compared.
       if (found && found.turn !== made.turn) {
-        this.#last = null;
+        this.#lastAges = null;
         return mayBeginAnew ? this.#find(at, false) : null;
       }
       found = { ...agesOf(made, found), turn: made.turn };
     }
-    this.#last = { found, of: at };
+    this.#lastAges = { found, of: at };
     return found;
   }
 }

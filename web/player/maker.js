@@ -24,22 +24,22 @@ const WAIT = 500;
 /**
  * Counts the cells of all generations in a worker of its own, while the page is seen and `isBusy` is false.
  * @param {{pattern: object, rule: object}} record
- * @param {number} last
+ * @param {number} lastGeneration
  * @param {(from: number, populations: number[]) => void} found called with the populations of some generations after
  *   another
  * @param {() => boolean} isBusy
  * @param {AbortSignal} signal
  */
-export function countAll({ pattern, rule }, last, found, isBusy, signal) {
+export function countAll({ pattern, rule }, lastGeneration, found, isBusy, signal) {
   const worker = newWorker();
   const ask = () => {
     if (signal.aborted) return;
     if (document.hidden || isBusy()) setTimeout(ask, WAIT);
-    else worker.postMessage({ last });
+    else worker.postMessage({ lastGeneration });
   };
   worker.addEventListener('message', ({ data: { from, populations } }) => {
     found(from, populations);
-    if (from + populations.length <= last) ask();
+    if (from + populations.length <= lastGeneration) ask();
     else worker.terminate();
   });
   signal.addEventListener('abort', () => worker.terminate());
@@ -60,11 +60,11 @@ export class Maker {
   /**
    * Computes generations of a record, up to a last one; without a record it waits until it is started.
    * @param {{pattern: object, rule: object} | null} record
-   * @param {number} last
+   * @param {number} lastGeneration
    * @param {AbortSignal} signal
    */
-  constructor(record, last, signal) {
-    this.last = last;
+  constructor(record, lastGeneration, signal) {
+    this.lastGeneration = lastGeneration;
     this.worker = newWorker();
     this.worker.addEventListener('message', ({ data }) => this.#take(data));
     this.worker.addEventListener('error', () => this.end());
@@ -125,7 +125,9 @@ export class Maker {
   /** Requests a block that begins or ends with a generation and has every `by`-th one. */
   #ask(at, direction, by) {
     const many = (end) => Math.max(0, Math.min(BLOCK - 1, Math.floor(end / by)));
-    const [from, to] = direction < 0 ? [at - many(at - this.#first) * by, at] : [at, at + many(this.last - at) * by];
+    const [from, to] = direction < 0
+      ? [at - many(at - this.#first) * by, at]
+      : [at, at + many(this.lastGeneration - at) * by];
     this.#going = { from, to };
     this.#reach = Math.max(this.#reach, to);
     this.worker.postMessage({ from, to, by, turn: this.#turn });
@@ -142,7 +144,7 @@ export class Maker {
     const next = at + direction * Math.ceil(BLOCK / 2) * by;
     if (!this.#going && !this.#made.has(at)) {
       this.#ask(at, direction, by);
-    } else if (!this.#going && next >= this.#first && next <= this.last && !this.#made.has(next)) {
+    } else if (!this.#going && next >= this.#first && next <= this.lastGeneration && !this.#made.has(next)) {
       this.#ask(next, direction, by);
     }
     if (this.#made.has(at)) return Promise.resolve(this.#made.get(at));

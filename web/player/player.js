@@ -198,10 +198,10 @@ export class Player {
   }
 
   /** Compares a generation with the archive's answer, if the page computed it. */
-  #compare(at, own) {
+  #compare(at, archivePattern) {
     const made = this.#shownMade?.at === at ? this.#shownMade.pattern : null;
     if (!made) return;
-    const good = isSame(made, own);
+    const good = isSame(made, archivePattern);
     this.#isDoubted ||= !good;
     this.listener.compared(at, good);
     if (!good) this.#maker.end();

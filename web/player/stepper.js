@@ -95,11 +95,11 @@ const countsOf = ({ births, survivals }) => ({
 });
 
 /** The cells whose count, given by four words of bits, is one of some numbers. */
-function isOneOf(numbers, one, two, four, eight) {
+function isOneOf(numbers, bit1, bit2, bit4, bit8) {
   let found = 0;
   for (const number of numbers) {
-    found |= (number & 1 ? one : ~one) & (number & 2 ? two : ~two)
-      & (number & 4 ? four : ~four) & (number & 8 ? eight : ~eight);
+    found |= (number & 1 ? bit1 : ~bit1) & (number & 2 ? bit2 : ~bit2)
+      & (number & 4 ? bit4 : ~bit4) & (number & 8 ? bit8 : ~bit8);
   }
   return found;
 }
@@ -111,23 +111,23 @@ function stepRow(field, next, row, sums, counts) {
     const [a, b, c] = [aboveOnes[word], ones[word], belowOnes[word]];
     const [d, e, f] = [aboveTwos[word], twos[word], belowTwos[word]];
     if ((a | b | c | d | e | f) === 0) continue;
-    const one = a ^ b ^ c;
+    const bit1 = a ^ b ^ c;
     const carry = (a & b) | (c & (a ^ b));
     const [low, lowCarry] = [d ^ e, d & e];
     const [high, highCarry] = [f ^ carry, f & carry];
-    const two = low ^ high;
+    const bit2 = low ^ high;
     const carried = low & high;
-    const four = lowCarry ^ highCarry ^ carried;
-    const eight = (lowCarry & highCarry) | (carried & (lowCarry ^ highCarry));
+    const bit4 = lowCarry ^ highCarry ^ carried;
+    const bit8 = (lowCarry & highCarry) | (carried & (lowCarry ^ highCarry));
     const here = field.bits[at];
-    next.bits[at] = (here & isOneOf(counts.live, one, two, four, eight))
-      | (~here & isOneOf(counts.dead, one, two, four, eight));
+    next.bits[at] = (here & isOneOf(counts.live, bit1, bit2, bit4, bit8))
+      | (~here & isOneOf(counts.dead, bit1, bit2, bit4, bit8));
   }
 }
 
 /** The next generation of a field. */
-export function following(given, counts) {
-  const field = given.withRoom();
+export function following(source, counts) {
+  const field = source.withRoom();
   const next = new Field(field.words, field.rows, field.column, field.row);
   const sums = [0, 1, 2].map(() => [new Uint32Array(field.words), new Uint32Array(field.words)]);
   sumRow(field.bits, 0, field.words, ...sums[2]);
@@ -145,11 +145,11 @@ export function following(given, counts) {
  * after them.
  */
 function edgesOf(bits, from, words, list, place) {
-  let last = 0;
+  let lastBit = 0;
   for (let word = 0; word < words; word += 1) {
     const here = bits[from + word];
-    let edges = here ^ ((here << 1) | last);
-    last = here >>> 31;
+    let edges = here ^ ((here << 1) | lastBit);
+    lastBit = here >>> 31;
     while (edges !== 0) {
       const lowest = edges & -edges;
       list[place] = word * 32 + 31 - Math.clz32(lowest);
@@ -157,7 +157,7 @@ function edgesOf(bits, from, words, list, place) {
       edges ^= lowest;
     }
   }
-  if (last === 1) {
+  if (lastBit === 1) {
     list[place] = words * 32;
     place += 1;
   }
@@ -265,20 +265,20 @@ function beginCount({ pattern, rule }) {
 }
 
 /** Sends the populations of the next generations, at least one, up to a last one. */
-function count({ last }) {
+function count({ lastGeneration }) {
   const [from, populations, begun] = [counting.at, [], performance.now()];
   do {
     populations.push(populationOf(counting.field));
     counting.field = following(counting.field, counting.counts);
     counting.at += 1;
-  } while (counting.at <= last && performance.now() - begun < COUNTING);
+  } while (counting.at <= lastGeneration && performance.now() - begun < COUNTING);
   globalThis.postMessage({ from, populations });
 }
 
-/** What the worker does for a message. */
+/** Handles a message to the worker. */
 function act(data) {
   if (data.toCount) beginCount(data);
-  else if (data.last !== undefined) count(data);
+  else if (data.lastGeneration !== undefined) count(data);
   else if (data.pattern) begin(data);
   else answer(data);
 }

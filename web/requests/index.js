@@ -164,8 +164,8 @@ export async function allDeposits(came, signal) {
  */
 export async function addComments(rows, signal) {
   const texts = new Map();
-  await eachBlock('comments', ({ first, text }) => text.forEach((one, at) => {
-    if (one) texts.set(first + at, one);
+  await eachBlock('comments', ({ first, text }) => text.forEach((comment, at) => {
+    if (comment) texts.set(first + at, comment);
   }), signal);
   for (const row of rows) row.search.comment = texts.get(row.id) ?? '';
 }
@@ -189,7 +189,7 @@ export async function objectsOfRule(rule, signal) {
       found.set(code, object);
     }
   }, signal);
-  return [...found.values()].sort((one, other) => other.count - one.count || (one.code < other.code ? -1 : 1));
+  return [...found.values()].sort((object, other) => other.count - object.count || (object.code < other.code ? -1 : 1));
 }
 
 /** Adds a census, with its count of an object. */
@@ -214,8 +214,8 @@ export async function rulesWithObjects(signal) {
       codes.set(rule, new Set([...codes.get(rule) ?? [], ...Object.keys(objects)]));
     }
   }, signal);
-  const sizes = /** @type {[string, number][]} */ ([...codes].map(([rule, own]) => [rule, own.size]));
-  return sizes.sort((one, other) => other[1] - one[1]);
+  const sizes = /** @type {[string, number][]} */ ([...codes].map(([rule, ruleCodes]) => [rule, ruleCodes.size]));
+  return sizes.sort((size, other) => other[1] - size[1]);
 }
 
 /** Censuses with a property, the newest first. */
@@ -277,21 +277,21 @@ function rank(row, asked) {
 }
 
 /** The deposits that match a query, the best first; equal ones by age, the newest first. */
-export function search(rows, given) {
-  const text = folded(given.text.trim());
+export function search(rows, query) {
+  const text = folded(query.text.trim());
   const number = (part) => (part === '' ? '' : Number(part));
   const asked = {
-    ...given,
+    ...query,
     text,
     words: text.split(/\s+/).filter(Boolean),
-    author: folded(given.author.trim()),
-    cells: given.cells.map(number),
-    side: given.side.map(number),
+    author: folded(query.author.trim()),
+    cells: query.cells.map(number),
+    side: query.side.map(number),
   };
   const found = [];
   for (const row of rows) {
     const sum = rank(row, asked);
     if (sum > 0) found.push({ row, sum });
   }
-  return found.sort((one, other) => other.sum - one.sum || other.row.id - one.row.id).map(({ row }) => row);
+  return found.sort((match, other) => other.sum - match.sum || other.row.id - match.row.id).map(({ row }) => row);
 }

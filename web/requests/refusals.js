@@ -29,7 +29,7 @@ export const REFUSALS = {
     + 'page says this about a smaller file, reload the page.',
 };
 
-/** What the gateway says in place of the archive, and what comes from no reply at all. */
+/** The gateway's own refusals, and the one if no reply comes at all. */
 export const GATEWAY = {
   'no-reply': 'No reply came. What you sent may have been stored all the same: send it again with the same token, and '
     + 'it is stored only once.',

@@ -61,7 +61,7 @@ function itemOf(part) {
 
 /**
  * The collection of an address, and how many of its parts can't be read: an address may have been cut.
- * @param {string} list what is after `/l/`
+ * @param {string} list the part of the address after `/l/`
  * @returns {Collection & { unread: number }}
  */
 export function readCollection(list) {

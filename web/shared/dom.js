@@ -43,7 +43,7 @@ export function icon(name, path = ICONS[name]) {
 export const withCommas = (number) => number.toLocaleString('en');
 
 /** `1 cell`, `2 cells`. */
-export const plural = (number, one, more = `${one}s`) => `${withCommas(number)} ${number === 1 ? one : more}`;
+export const plural = (number, noun, nouns = `${noun}s`) => `${withCommas(number)} ${number === 1 ? noun : nouns}`;
 
 /** A field of a form with its label. */
 export function field(label, input, hint) {
@@ -53,11 +53,11 @@ export function field(label, input, hint) {
 }
 
 /** Why something was refused, and what to do; with the line of the file, if it is known. */
-export function refusal(error, more) {
+export function refusal(error, advice) {
   if (!(error instanceof Refused)) throw error;
   return element('div', { class: 'refusal', role: 'alert' },
     element('p', {}, sentenceOf(error)),
-    more ? element('p', {}, more) : null,
+    advice ? element('p', {}, advice) : null,
     element('p', { class: 'name' }, element('code', {}, nameOf(error))),
   );
 }

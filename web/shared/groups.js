@@ -3,7 +3,7 @@
 import { Refused } from '../requests/refusals.js';
 import { draft, keepDraft } from './storage.js';
 
-/** The groups. Each one more splits what they share into more files, so there are few. */
+/** The groups. Each further group splits shared modules into more files, so there are few. */
 const GROUPS = {
   deposit: () => import('../pages/deposit.js'),
   lazyPages: () => import('../pages/lazyPages.js'),

@@ -36,7 +36,7 @@ export function keepNote(number, text, typed) {
  * @returns {{ line: HTMLElement, typed?: string | null }}
  */
 export function noteOf(number) {
-  const own = note?.number === number ? note : null;
+  const ownNote = note?.number === number ? note : null;
   note = null;
-  return { line: element('p', { class: 'note', role: 'status' }, own?.text ?? ''), typed: own?.typed };
+  return { line: element('p', { class: 'note', role: 'status' }, ownNote?.text ?? ''), typed: ownNote?.typed };
 }

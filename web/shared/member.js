@@ -15,7 +15,7 @@ export const rememberMember = (name) => keepSetting('member', name);
 /** Says in place of the field whose deposits these will be. */
 function loginPart(login, another) {
   return element('p', { class: 'login' },
-    'This club checks passwords. What you send is stored for the member that you log in as',
+    'This club checks passwords. Your deposits are stored for the member that you log in as',
     login ? [', last time ', element('strong', {}, login)] : '',
     '. ',
     element('button', { type: 'button', class: 'quiet', click: another }, 'Type a name'),

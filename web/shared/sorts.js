@@ -7,10 +7,10 @@ import { entryState, keepEntryState } from './storage.js';
  * @typedef {object} Column
  * @property {string} id its name, as in an address
  * @property {string} head
- * @property {(row: any, ...more: any[]) => string | number} value its value for a row
+ * @property {(row: any, ...context: any[]) => string | number} value its value for a row
  * @property {boolean} [isNumber]
  * @property {boolean} [isUp] whether its first order is ascending
- * @property {boolean} [more] whether narrow windows hide it
+ * @property {boolean} [isExtra] whether narrow windows hide it
  */
 
 /**
@@ -30,15 +30,15 @@ export const keepOrder = (order) => keepEntryState({ order });
  * @param {Row[]} rows
  * @param {Column[]} columns
  * @param {Order} order
- * @param {any[]} more what the columns need besides the row
+ * @param {any[]} context further arguments that the columns need
  * @returns {Row[]}
  */
-export function sorted(rows, columns, { sort, isUp }, ...more) {
+export function sorted(rows, columns, { sort, isUp }, ...context) {
   const { value } = columns.find(({ id }) => id === sort);
   const sign = isUp ? 1 : -1;
-  const values = new Map(rows.map((row) => [row, value(row, ...more)]));
-  return [...rows].sort((one, other) => (
-    values.get(one) < values.get(other) ? -sign : values.get(one) > values.get(other) ? sign : 0
+  const values = new Map(rows.map((row) => [row, value(row, ...context)]));
+  return [...rows].sort((row, other) => (
+    values.get(row) < values.get(other) ? -sign : values.get(row) > values.get(other) ? sign : 0
   ));
 }
 
@@ -51,14 +51,14 @@ export class Heads {
    */
   constructor(columns, order, changed) {
     this.order = order;
-    this.cells = columns.map(({ id, head, isNumber, isUp, more }) => {
+    this.cells = columns.map(({ id, head, isNumber, isUp, isExtra }) => {
       const press = () => {
         this.mark({ sort: id, isUp: this.order.sort === id ? !this.order.isUp : Boolean(isUp) });
         changed(this.order);
       };
       return element('th', {
         scope: 'col',
-        class: [isNumber ? 'number' : '', more ? 'more' : ''].join(' ').trim(),
+        class: [isNumber ? 'number' : '', isExtra ? 'more' : ''].join(' ').trim(),
         'data-column': id,
       }, element('button', { type: 'button', class: 'sort', click: press }, head));
     });

@@ -25,12 +25,12 @@ export const keepSetting = (name, value) => write(forGood, name, value);
 export const draft = (name) => read(forWindow, name);
 export const keepDraft = (name, value) => write(forWindow, name, value);
 
-/** The draft of what was copied last, on any page: not every browser lets a page read its clipboard. */
+/** The draft of the last copy, on any page: not every browser lets a page read its clipboard. */
 export const COPIED = 'copied';
 
 /** The draft of the address of the collection that was edited last. */
 export const COLLECTION = 'collection';
 
-/** What is stored with an entry in the window's history, so that going back finds the page as it was left. */
+/** The data stored with an entry in the window's history, so that going back finds the page as it was left. */
 export const entryState = () => history.state ?? {};
-export const keepEntryState = (more) => history.replaceState({ ...history.state, ...more }, '');
+export const keepEntryState = (changes) => history.replaceState({ ...history.state, ...changes }, '');

@@ -19,7 +19,23 @@ import pytest
 
 from clients import check, same
 from document_changes import CHANGES, PLANTED
-from document_checks import API, CHECKS, FILES, OTHERS, PARTS, PROXY, ROUTES, SITE, TABLES, Pages, Problems, read
+from document_checks import (
+    API,
+    CHECKS,
+    FILES,
+    OPERATING,
+    OTHERS,
+    PARTS,
+    PROXY,
+    ROUTES,
+    SITE,
+    TABLES,
+    Pages,
+    Problems,
+    cells_of,
+    read,
+)
+from drifts import DRIFTS
 from tables import clauses, places
 from tables.sources import libraries
 
@@ -61,6 +77,13 @@ def test_route_more() -> None:
     pages |= written
     again = places.compare(lambda path: pages[path] if path in pages else read(path))
     same("what is written again", [problem for problem in again if problem], [])
+
+
+def test_drifts() -> None:
+    """The table of what life-configure compares has the differences that test_boot.py tries, in their order."""
+    table = PAGES[OPERATING].split("| If one of these differs |")[1].split("\n\n")[0].split("\n")[2:]
+    names = [name for line in table for name in cells_of(line)[0].split(", ")]
+    same("the differences of docs/OPERATING.md", names, [drift.name for drift in DRIFTS])
 
 
 # How many mutation tests a library has at most, and how many of them the gate tries.

@@ -74,7 +74,7 @@ DRIFTS = (
         "pgrep -n haproxy > /run/drift",
         "systemctl reload-or-restart life-gateway",
         "[ $(pgrep -n haproxy) != $(cat /run/drift) ]",
-        "life-configure --replace",
+        "life-configure --replace; rm /etc/life/haproxy.cfg.dpkg-*",
     ),
     Drift(
         "a mode or an owner",

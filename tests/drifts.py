@@ -99,7 +99,7 @@ DRIFTS = (
     Drift(
         "HAProxy's program",
         "exchange /usr/sbin/haproxy",
-        "systemctl try-restart life-gateway",
+        r"systemctl try-restart life-gateway.service\n(?!systemctl reload)",
         "runs life-gateway.service /usr/sbin/haproxy",
     ),
     Drift(

@@ -127,6 +127,8 @@ def load_units(changed: list[str]) -> bool:
     names = [name for name in UNITS if name in changed or name in stale or runs_replaced(name)]
     for name in names:
         systemctl("try-restart", name)
+    if GATEWAY in names and os.path.exists(HAPROXY):
+        note_read(GATEWAY, haproxy_digest())
     return bool(stale or names)
 
 
@@ -148,14 +150,18 @@ def note_read(unit: str, digest: str) -> None:
         file.write(f"{digest} {newest_worker(unit)}")
 
 
+def haproxy_digest() -> str:
+    with open(HAPROXY, "rb") as file:
+        return hashlib.sha256(file.read()).hexdigest()
+
+
 def load_haproxy() -> bool:
     """Has HAProxy load its configuration, if it may have read another one; returns whether it did. An HAProxy that
     failed is started."""
     state = shown(GATEWAY, "ActiveState")
     if not os.path.exists(HAPROXY) or state not in ("active", "failed"):
         return False
-    with open(HAPROXY, "rb") as file:
-        digest = hashlib.sha256(file.read()).hexdigest()
+    digest = haproxy_digest()
     if has_read(GATEWAY, digest):
         return False
     if state == "failed":

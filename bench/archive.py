@@ -19,6 +19,10 @@ from collections.abc import Callable
 
 HERE = os.path.dirname(os.path.abspath(__file__))
 TOP = os.path.dirname(HERE)
+sys.path.insert(0, os.path.join(TOP, "tests"))
+sys.dont_write_bytecode = True
+import archives  # noqa: E402
+
 SIZES = [100, 10_000, 100_000]
 BELOW = ["life_core", "life_rle", "life_code", "life_census", "life_store"]
 CALLS = [
@@ -32,19 +36,11 @@ CALLS = [
 Times = dict[tuple[str, int, str], float]
 RLE = b"x = 3, y = 3, rule = B3/S23\nbo$2bo$3o!\n"
 
-TABLES = [
-    "CREATE TABLE layout (version INTEGER NOT NULL) STRICT",
-    (
-        "CREATE TABLE deposits (id INTEGER PRIMARY KEY, member TEXT NOT NULL, token TEXT NOT NULL, "
-        "rule TEXT NOT NULL, population INTEGER NOT NULL CHECK (population >= 0), "
-        "rle BLOB NOT NULL, UNIQUE (member, token)) STRICT"
-    ),
-]
+TABLES = archives.tables()[:2]
 NEWEST = "SELECT id FROM deposits ORDER BY id DESC LIMIT 1"
 SHOW = "SELECT id, member, token, rle FROM deposits WHERE id = ?1 ORDER BY id"
 FIND = "SELECT id, member, token, rle FROM deposits WHERE member = ?1 AND token = ?2 ORDER BY id"
 PAGE = "SELECT id, member, population, rule FROM deposits WHERE id > ?1 ORDER BY id LIMIT 100"
-ADD = "INSERT INTO deposits (id, member, token, rule, population, rle) VALUES (?1, ?2, ?3, ?4, ?5, ?6)"
 
 
 def python_calls(conn: sqlite3.Connection) -> dict[str, Callable[[int], object]]:
@@ -52,7 +48,7 @@ def python_calls(conn: sqlite3.Connection) -> dict[str, Callable[[int], object]]
 
     def add(number: int) -> None:
         rows = conn.execute(NEWEST).fetchall()
-        conn.execute(ADD, ((rows[0][0] if rows else 0) + 1, "ann", f"t{number}", "B3/S23", 5, RLE))
+        conn.execute(archives.ADD_DEPOSIT, ((rows[0][0] if rows else 0) + 1, "ann", f"t{number}", "B3/S23", 5, RLE))
 
     return {
         "add": add,

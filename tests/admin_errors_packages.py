@@ -7,6 +7,7 @@ import sqlite3
 
 import archives
 import ledger
+import old_archives
 from debian import ARCHIVE, COPIES, LATER, LATEST, SETTINGS, SITE, VERSION, Debian
 from debian import (
     change_settings,
@@ -122,12 +123,9 @@ def written_as_schema_1(path: str) -> int:
     block = len(rows) + 1
     new = sqlite3.connect(path)
     new.execute("PRAGMA journal_mode=WAL")
-    for statement in [statement for statement in archives.tables() if "census_flags" not in statement]:
+    for statement in old_archives.FIRST_TABLES:
         new.execute(statement)
-    new.execute("INSERT INTO layout VALUES (1)")
-    new.executemany(
-        "INSERT INTO deposits VALUES (?, ?, ?, ?, ?, ?)", [*rows, (block, "bob", "block", "B3/S23", 4, BLOCK)]
-    )
+    new.executemany(old_archives.ADD_DEPOSIT, [*rows, (block, "bob", "block", "B3/S23", 4, BLOCK)])
     for number, deposit, code in ((1, 1, "xq4_153"), (2, block, "xs4_33")):
         new.execute("INSERT INTO censuses VALUES (?, 'ann', ?, ?, 0, 4, 1, 0)", (number, f"c{number}", deposit))
         new.execute("INSERT INTO census_rows VALUES (?, ?, 1)", (number, code))
@@ -150,7 +148,7 @@ def version_in(path: str) -> tuple[list[int], list[tuple[int, int]] | None]:
 
 def upgrades_an_old_archive(debian: Debian) -> None:
     """An upgrade over an archive of schema version 1: the copy from before is still of that version, the archive is of
-    version 2 and served."""
+    this version and served."""
     debian.run("systemctl", "stop", "life.service")
     block, version = (
         written_as_schema_1(debian.path(ARCHIVE)),
@@ -175,7 +173,11 @@ def upgrades_an_old_archive(debian: Debian) -> None:
         ([1], None),
     )
     same("a copy of what is served", debian.run("life-copy", ARCHIVE, "/srv/read.db").returncode, 0)
-    same("it is of schema version 2, with flags", version_in(debian.path("/srv/read.db")), ([2], [(1, 0), (2, 1)]))
+    same(
+        "it is of this schema version, with flags",
+        version_in(debian.path("/srv/read.db")),
+        ([archives.VERSION], [(1, 0), (2, 1)]),
+    )
     shown = [curl(debian, f"/deposits/{number}") for number in (1, block)]
     same("deposits are served", shown, [("200", pattern(1)), ("200", BLOCK.decode())])
     flags = [json.loads(curl(debian, f"/censuses/{number}")[1]).get("steady") for number in (1, 2)]

@@ -1,4 +1,5 @@
-"""Archives that tests write themselves, with the tables of docs/FORMATS.md and invented deposits.
+"""Archives that tests write themselves, with the tables of docs/FORMATS.md and invented deposits. Other tests take the
+schema version and the columns of a deposit from here.
 """
 import hashlib
 import os
@@ -16,12 +17,24 @@ WORDS = (
 ).split()
 
 
-def tables() -> list[str]:
-    """The statements of the tables, as docs/FORMATS.md has them."""
+def described(form: str) -> str:
+    """What docs/FORMATS.md has in this place."""
     with open(os.path.join(os.path.dirname(HERE), "docs", "FORMATS.md"), encoding="utf-8") as page:
-        quoted = re.search(r"(?s)\n\n((?:    .*\n)+)\n\(In the file each is on one line", page.read())
+        quoted = re.search(form, page.read())
     assert quoted
-    return re.findall(r"CREATE TABLE .*?STRICT", " ".join(quoted[1].split()))
+    return quoted[1]
+
+
+# The schema version of the tables, and the statement that adds a deposit: its number, member, token, rule, population
+# and file.
+VERSION = int(described(r"(?m)^\| `layout` \| .* \| `version`: (\d+) \|$"))
+ADD_DEPOSIT = "INSERT INTO deposits (id, member, token, rule, population, rle) VALUES (?, ?, ?, ?, ?, ?)"
+
+
+def tables() -> list[str]:
+    """The statements of the tables."""
+    lines = described(r"(?s)\n\n((?:    .*\n)+)\n\(In the file each is on one line")
+    return re.findall(r"CREATE TABLE .*?STRICT", " ".join(lines.split()))
 
 
 def new_archive(path: str) -> sqlite3.Connection:
@@ -30,7 +43,7 @@ def new_archive(path: str) -> sqlite3.Connection:
     database = sqlite3.connect(path)
     for statement in tables():
         database.execute(statement)
-    database.execute("INSERT INTO layout VALUES (2)")
+    database.execute("INSERT INTO layout VALUES (?)", (VERSION,))
     return database
 
 
@@ -59,10 +72,7 @@ class Entry:
 
 
 def fill(database: sqlite3.Connection, entries: Iterable[Entry], first: int) -> None:
-    database.executemany(
-        "INSERT INTO deposits VALUES (?, ?, ?, ?, ?, ?)",
-        (entry.row(first + place) for place, entry in enumerate(entries)),
-    )
+    database.executemany(ADD_DEPOSIT, (entry.row(first + place) for place, entry in enumerate(entries)))
     database.commit()
 
 

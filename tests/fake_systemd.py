@@ -256,8 +256,7 @@ def write_wrong_row(database: str) -> None:
     pattern."""
     kept = archives.new_archive(database)
     for number, population in ((1, 6), (2, 5)):
-        row = (number, f"t{number}", population, GLIDER_TEXT)
-        kept.execute("INSERT INTO deposits VALUES (?, 'ann', ?, 'B3/S23', ?, ?)", row)
+        kept.execute(archives.ADD_DEPOSIT, (number, "ann", f"t{number}", "B3/S23", population, GLIDER_TEXT))
     kept.commit()
     kept.close()
 

@@ -1,10 +1,12 @@
 """Archives of schema version 1, which tests/test_archive.py writes and the program migrates."""
 import sqlite3
 
+import archives
 import life
 import reference
 from clients import GLIDER
 
+# The statements of schema version 1, which stay as they are.
 LAYOUT = "CREATE TABLE layout (version INTEGER NOT NULL) STRICT"
 
 FIRST_TABLES = [
@@ -25,6 +27,7 @@ FIRST_TABLES = [
     ),
     "INSERT INTO layout (version) VALUES (1)",
 ]
+ADD_DEPOSIT = "INSERT INTO deposits (id, member, token, rule, population, rle) VALUES (?, ?, ?, ?, ?, ?)"
 
 # Two blocks; two blinkers whose phases touch; a block and a blinker; a glider.
 FIELDS = [b"x = 6, y = 2\n2o2b2o$2o2b2o!\n", b"x = 4, y = 3\no2bo$o2bo$o2bo!\n", b"x = 9, y = 2\n2o4b3o$2o!\n", GLIDER]
@@ -41,7 +44,7 @@ def first_archive(path: str, many: int) -> list[tuple[int, int]]:
     for i, record in enumerate(records):
         rule, cells = record[3:]
         row = (i + 1, "ann", f"t{i}", life.rule_text(rule), len(cells), life.file_text(record))
-        kept.execute("INSERT INTO deposits (id, member, token, rule, population, rle) VALUES (?, ?, ?, ?, ?, ?)", row)
+        kept.execute(ADD_DEPOSIT, row)
     found: dict[tuple[int, int, int], tuple[reference.Tally, bool]] = {}
     flags = []
     for number in range(1, many + 1):
@@ -67,7 +70,7 @@ def first_archive(path: str, many: int) -> list[tuple[int, int]]:
 
 
 def version_kept(path: str, flags: list[tuple[int, int]]) -> int | None:
-    """The layout of the file, if it is 1 without flags, or 2 with all of them."""
+    """The layout of the file, if it is 1 without flags, or this version's with all of them."""
     kept = sqlite3.connect(path)
     version = kept.execute("SELECT version FROM layout").fetchall()
     tables = {name for (name,) in kept.execute("SELECT name FROM sqlite_schema WHERE type = 'table'")}
@@ -79,4 +82,4 @@ def version_kept(path: str, flags: list[tuple[int, int]]) -> int | None:
     kept.close()
     if good and version == [(1,)] and "census_flags" not in tables:
         return 1
-    return 2 if good and version == [(2,)] and whole else None
+    return archives.VERSION if good and version == [(archives.VERSION,)] and whole else None

@@ -17,7 +17,7 @@ import pytest
 
 import clients
 import reference
-from archives import BLANK
+from archives import BLANK, VERSION
 from clients import (
     BLOCKS,
     BLOCKS_TEXT,
@@ -69,9 +69,6 @@ def test_deposits(folder: str) -> None:
     same("rows", rows, [(1, "ann", "t1", "B3/S23", 5, GLIDER_TEXT), (2, "ann", "t2", "B3/S23", 8, BLOCKS_TEXT)])
     same("layout", kept.execute("SELECT * FROM layout").fetchall(), [(VERSION,)])
     kept.close()
-
-
-VERSION = 2
 
 
 def copied_alone(database: str, to: str) -> str:
@@ -516,17 +513,18 @@ def test_killed_migration(folder: str) -> None:
         code, _, _ = run("deposit", "--db", database, "ann", "t3", data=GLIDER)
         stop += 1
         check(
-            f"stop {stop} of a carrying over", seen[-1] is not None and code == 0 and version_kept(database, flags) == 2
+            f"stop {stop} of a carrying over",
+            seen[-1] is not None and code == 0 and version_kept(database, flags) == VERSION,
         )
-    same(f"kills before the end of a carrying over and after it: {seen}", set(seen), {1, 2})
+    same(f"kills before the end of a carrying over and after it: {seen}", set(seen), {1, VERSION})
 
 
 # ---- databases that are not an archive's, and rows that none writes
 
 # Databases that have some of an archive's tables but are not archives.
 OTHERS = [
-    ("version 3", [LAYOUT, "INSERT INTO layout (version) VALUES (3)"]),
-    ("version 2 without flags", [LAYOUT, "INSERT INTO layout (version) VALUES (2)"]),
+    ("a later version", [LAYOUT, f"INSERT INTO layout (version) VALUES ({VERSION + 1})"]),
+    ("this version without flags", [LAYOUT, f"INSERT INTO layout (version) VALUES ({VERSION})"]),
     ("version 0", [LAYOUT, "INSERT INTO layout (version) VALUES (0)"]),
     ("no version", [LAYOUT]),
     ("two versions", [LAYOUT, "INSERT INTO layout (version) VALUES (1), (1)"]),
@@ -541,8 +539,8 @@ OTHERS = [
 
 # What is changed in an archive of schema version 1, and how its opening is refused then.
 FIRST_CHANGES = [
-    ("UPDATE layout SET version = 2", b"not-ours"),
-    ("UPDATE layout SET version = 3", b"not-ours"),
+    (f"UPDATE layout SET version = {VERSION}", b"not-ours"),
+    (f"UPDATE layout SET version = {VERSION + 1}", b"not-ours"),
     (
         "CREATE TABLE census_flags "
         "(census INTEGER PRIMARY KEY REFERENCES censuses (id), steady INTEGER NOT NULL) STRICT",

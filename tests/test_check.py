@@ -14,7 +14,7 @@ from typing import Any
 import pytest
 
 import archives
-from archives import BLANK
+from archives import ADD_DEPOSIT, BLANK, VERSION
 from clients import (
     BLOCKS,
     GLIDER,
@@ -46,8 +46,8 @@ LAYOUT = "layout: its row is wrong or missing"
 
 # A glider and a block; the block 7 generations later, and the glider 4 generations later.
 ROWS: list[Change] = [
-    ("INSERT INTO deposits VALUES (1, 'ann', 't1', 'B3/S23', 5, ?)", [GLIDER_TEXT]),
-    ("INSERT INTO deposits VALUES (2, 'ann', 't2', 'B3/S23', 4, ?)", [BLOCK_TEXT]),
+    (ADD_DEPOSIT, [1, "ann", "t1", "B3/S23", 5, GLIDER_TEXT]),
+    (ADD_DEPOSIT, [2, "ann", "t2", "B3/S23", 4, BLOCK_TEXT]),
     ("INSERT INTO censuses VALUES (1, 'ann', 'c1', 2, 7, 2, 1, 0)", []),
     ("INSERT INTO censuses VALUES (2, 'bob', 'c1', 1, 4, 4, 1, 0)", []),
     ("INSERT INTO census_rows VALUES (1, 'xs4_33', 1)", []),
@@ -64,12 +64,12 @@ DAMAGED: list[tuple[str, list[Any], str]] = [
     ("CREATE TABLE notes (note TEXT)", [], NO_TABLES),
     ("CREATE VIEW members AS SELECT member FROM deposits", [], NO_TABLES),
     ("DROP TABLE census_flags", [], NO_TABLES),
-    ("UPDATE layout SET version = 3", [], LAYOUT),
-    ("INSERT INTO layout VALUES (2)", [], LAYOUT),
+    ("UPDATE layout SET version = version + 1", [], LAYOUT),
+    ("INSERT INTO layout VALUES (?)", [VERSION], LAYOUT),
     ("DELETE FROM layout", [], LAYOUT),
     ("UPDATE layout SET rowid = 2", [], LAYOUT),
-    ("INSERT INTO deposits VALUES (0, 'ann', 't3', 'B3/S23', 4, ?)", [BLOCK_TEXT], "deposit 1"),
-    ("INSERT INTO deposits VALUES (4, 'ann', 't3', 'B3/S23', 4, ?)", [BLOCK_TEXT], "deposit 3"),
+    (ADD_DEPOSIT, [0, "ann", "t3", "B3/S23", 4, BLOCK_TEXT], "deposit 1"),
+    (ADD_DEPOSIT, [4, "ann", "t3", "B3/S23", 4, BLOCK_TEXT], "deposit 3"),
     ("UPDATE deposits SET member = 'Ann' WHERE id = 1", [], "deposit 1"),
     ("UPDATE deposits SET token = 't 2' WHERE id = 2", [], "deposit 2"),
     ("UPDATE deposits SET rule = 'B36/S23' WHERE id = 1", [], "deposit 1, census 2"),
@@ -299,8 +299,7 @@ def several(folder: str, changes: list[str]) -> str:
     kept = archives.new_archive(database)
     for number in range(1, DEPOSITS + 1):
         population, text = (5, GLIDER_TEXT) if number % 2 else (4, BLOCK_TEXT)
-        row = [number, "ann", f"t{number}", "B3/S23", population, text]
-        kept.execute("INSERT INTO deposits VALUES (?, ?, ?, ?, ?, ?)", row)
+        kept.execute(ADD_DEPOSIT, [number, "ann", f"t{number}", "B3/S23", population, text])
     for number in range(1, CENSUSES + 1):
         code, steady = ("xq4_153", 0) if deposit_of(number) % 2 else ("xs4_33", 1)
         kept.execute(
@@ -340,9 +339,13 @@ def test_several_errors(folder: str, seed: int) -> None:
 
 def test_a_hundred_errors(folder: str) -> None:
     """Of many errors the first hundred are listed, as numbers that are missing are here."""
-    far = "INSERT INTO deposits SELECT 1000000000, member, 'far', rule, population, rle FROM deposits WHERE id = 1"
+    far = [
+        "CREATE TEMP TABLE far AS SELECT * FROM deposits WHERE id = 1",
+        "UPDATE far SET id = 1000000000, token = 'far'",
+        "INSERT INTO deposits SELECT * FROM far",
+    ]
     wrong = [f"deposit {number}" for number in range(DEPOSITS + 1, DEPOSITS + 101)]
-    checks_as("a gap", several(folder, [far]), (1, lines_of(wrong), UNSOUND))
+    checks_as("a gap", several(folder, far), (1, lines_of(wrong), UNSOUND))
 
 
 # ---- one token twice
@@ -375,7 +378,7 @@ def test_tables_without_unique(folder: str, table: str) -> None:
     for statement in archives.tables():
         is_it = statement.startswith(f"CREATE TABLE {table} ")
         kept.execute(statement.replace("UNIQUE (member, token)", "CHECK (id > 0)") if is_it else statement)
-    kept.execute("INSERT INTO layout VALUES (2)")
+    kept.execute("INSERT INTO layout VALUES (?)", [VERSION])
     for statement, values in ROWS:
         kept.execute(statement, values)
     kept.execute(f"UPDATE {table} SET member = 'ann', token = 't1'")
@@ -436,11 +439,7 @@ def many(folder: str, count: int) -> str:
     """An archive of many gliders."""
     database = fresh(folder, "many.db")
     kept = archives.new_archive(database)
-    kept.execute(
-        "WITH RECURSIVE n(i) AS (SELECT 1 UNION ALL SELECT i + 1 FROM n WHERE i < ?)"
-        " INSERT INTO deposits SELECT i, 'ann', 't' || i, 'B3/S23', 5, ? FROM n",
-        [count, GLIDER_TEXT],
-    )
+    kept.executemany(ADD_DEPOSIT, ([n, "ann", f"t{n}", "B3/S23", 5, GLIDER_TEXT] for n in range(1, count + 1)))
     kept.commit()
     kept.close()
     return database

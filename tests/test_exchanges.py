@@ -148,7 +148,7 @@ def test_edited(folder: str) -> None:
     with contextlib.closing(sqlite3.connect(club.newest())) as copy:
         rows = copy.execute("SELECT * FROM deposits").fetchall()
     with contextlib.closing(archives.new_archive(edited)) as new:
-        new.executemany("INSERT INTO deposits VALUES (?, ?, ?, ?, ?, ?)", rows)
+        new.executemany(f"INSERT INTO deposits VALUES ({', '.join('?' * len(rows[0]))})", rows)
         new.execute("UPDATE deposits SET rle = ? WHERE id = 3", (GLIDER_TEXT,))
         new.commit()
     check(

@@ -21,7 +21,7 @@ from pathlib import Path
 import pytest
 
 import fake_systemd
-from archives import new_archive
+from archives import ADD_DEPOSIT, new_archive
 from clients import BLOCKS, GLIDER, GLIDER_TEXT, HERE, Server, check, deposit, exchanged, same
 from debian import until
 from fake_systemd import HASH
@@ -285,7 +285,7 @@ def test_too_little_memory(folder: str, memory: str, good: bool) -> None:
     280 MB, and a tenth more is wanted, 308,000,000 bytes."""
     place = Place(os.path.join(folder, f"memory-{memory}"))
     with contextlib.closing(new_archive(place.copied())) as database:
-        database.execute("INSERT INTO deposits VALUES (1000000, 'ann', 't1', 'B3/S23', 5, x'')")
+        database.execute(ADD_DEPOSIT, [1000000, "ann", "t1", "B3/S23", 5, b""])
         database.commit()
     words = ["--memory", memory, "--root", place.root, place.archive, place.copies, "2h"]
     said = f"LIFE_MEMORY={memory} is too little to open {place.archive}: 1,000,000 deposits take 294M\n"
@@ -422,7 +422,7 @@ def files(folder: str) -> dict[str, bytes]:
 def wrong_copy(new: str) -> str:
     """A copy as sqlite3 may write it, with a wrong population."""
     with contextlib.closing(new_archive(new)) as database:
-        database.execute("INSERT INTO deposits VALUES (1, 'ann', 't1', 'B3/S23', 6, ?)", [GLIDER_TEXT])
+        database.execute(ADD_DEPOSIT, [1, "ann", "t1", "B3/S23", 6, GLIDER_TEXT])
         database.commit()
     return new
 

@@ -16,7 +16,7 @@ from collections.abc import Callable
 import xml.etree.ElementTree
 
 import life
-from archives import Entry, add_census, fill, new_archive
+from archives import ADD_DEPOSIT, Entry, add_census, fill, new_archive
 from clients import GLIDER, HERE, Server, check, deposit, exchanged, message, same
 
 DEPLOY = os.path.join(os.path.dirname(HERE), "deploy")
@@ -258,7 +258,7 @@ def test_other_archives(folder: str) -> None:
     for members, day, wanted in cases:
         database = new_archive(copy)
         database.executemany(
-            "INSERT INTO deposits VALUES (?, ?, ?, ?, ?, ?)",
+            ADD_DEPOSIT,
             (
                 entry.row(number)[:2] + (f"t{number}",) + entry.row(number)[3:]
                 for number, entry in enumerate(members, 1)

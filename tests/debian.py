@@ -14,6 +14,7 @@ import ledger
 import machine
 from clients import GLIDER_TEXT, HERE, check, same
 from ledger import Deposit, Ledger
+from reference import deposit_body
 
 TOP = os.path.dirname(HERE)
 GLIDER = GLIDER_TEXT.decode()
@@ -188,7 +189,7 @@ class Debian(machine.Machine):
         """Deposits the next pattern through nginx; whether it got the next number. It is in the ledger then."""
         number = len(self.ledger) + 1
         answer = deposited(self, number, token)
-        if answer == ("201", json.dumps({"deposit": number}, separators=(",", ":"))):
+        if answer == ("201", deposit_body(number).decode()):
             self.ledger[number] = Deposit("ann", token or f"t{number}", pattern(number).encode())
             return True
         print(f"deposit {number}: {answer}")

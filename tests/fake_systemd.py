@@ -216,7 +216,7 @@ class Club:
         """Deposits through the service, and records what was acknowledged in the ledger."""
         for member in members:
             reply = exchanged(self.port, [deposit(member, "t1", file_of(member))])
-            found = re.search(rb'201 Created.*\{"deposit":([0-9]+)\}', reply, re.S)
+            found = re.search(rb'201 Created.*"deposit":([0-9]+)', reply, re.S)
             check(f"{self.room}: a deposit of {member}: {reply[:200]!r}", found is not None)
             assert found is not None
             self.ledger[int(found[1])] = deposit_of(member)

@@ -9,6 +9,8 @@ import tempfile
 from collections.abc import Callable
 from typing import NamedTuple
 
+from reference import deposit_body
+
 
 class Deposit(NamedTuple):
     """What a number names: its member, the token, and the text that the archive shows."""
@@ -62,7 +64,7 @@ def token_faults(ledger: Ledger, ask: Ask) -> list[str]:
     return [
         f"the token of {number}: {reply}"
         for number, reply in enumerate(replies, 1)
-        if reply != (201, b'{"deposit":%d}' % number)
+        if reply != (201, deposit_body(number))
     ]
 
 

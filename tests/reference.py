@@ -104,8 +104,21 @@ def reply(status: int, kind: str, body: bytes) -> bytes:
     return head.encode() + body
 
 
+def compact(value: dict[str, Any]) -> bytes:
+    return json.dumps(value, separators=(",", ":"), sort_keys=True).encode()
+
+
 def json_reply(status: int, value: dict[str, Any]) -> bytes:
-    return reply(status, "application/json", json.dumps(value, separators=(",", ":"), sort_keys=True).encode())
+    return reply(status, "application/json", compact(value))
+
+
+def deposit_body(number: int) -> bytes:
+    """The body of the reply to a deposit. Other tests take it from here."""
+    return compact({"deposit": number})
+
+
+def deposited(number: int) -> bytes:
+    return reply(201, "application/json", deposit_body(number))
 
 
 def refusal(number: int, rle: int | None = None) -> bytes:
@@ -161,7 +174,7 @@ class Archive:
             record = life.read_file(data)
         except life.Fault as fault:
             raise Refused(7, fault.args[0])
-        return json_reply(201, {"deposit": self.kept(self.deposits, member, token, record)})
+        return deposited(self.kept(self.deposits, member, token, record))
 
     def record(self, number: int) -> life.Record:
         if not 1 <= number <= len(self.deposits):

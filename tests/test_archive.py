@@ -260,20 +260,23 @@ def test_curl(folder: str) -> None:
                 top + path,
             )
 
+        def body_of(number: int) -> str:
+            return reference.deposit_body(number).decode()
+
         json = "application/json"
-        same("curl deposit", post("/deposits", GLIDER), f'{{"deposit":1}}|201|{json}|1')
-        same("curl again", post("/deposits", GLIDER), f'{{"deposit":1}}|201|{json}|1')
+        same("curl deposit", post("/deposits", GLIDER), f"{body_of(1)}|201|{json}|1")
+        same("curl again", post("/deposits", GLIDER), f"{body_of(1)}|201|{json}|1")
         same("curl reused", post("/deposits", BLOCKS), f'{{"error":"token-reused","refusal":5}}|409|{json}|1')
         same(
             "curl bad file",
             post("/deposits", b"x = 1\n", token="t2"),
             f'{{"error":"bad-pattern","refusal":7,"rle":4}}|422|{json}|1',
         )
-        same("curl blocks", post("/deposits", BLOCKS, token="t2"), f'{{"deposit":2}}|201|{json}|1')
+        same("curl blocks", post("/deposits", BLOCKS, token="t2"), f"{body_of(2)}|201|{json}|1")
         same(
             "curl 1 MiB",
             post("/deposits", GLIDER + b" " * (1_048_576 - len(GLIDER)), token="t3"),
-            f'{{"deposit":3}}|201|{json}|1',
+            f"{body_of(3)}|201|{json}|1",
         )
         same(
             "curl more",
@@ -335,7 +338,7 @@ def test_bytes(folder: str) -> None:
         same("nothing", exchanged(server.port, [b"\r\n"]), b"")
         large = deposit("ann", "t3", GLIDER + b" " * (1_048_576 - len(GLIDER)))
         pieces = [large[:200]] + [large[k : k + 1000] for k in range(200, len(large), 1000)]
-        same("1 MiB in pieces", exchanged(server.port, pieces), reference.json_reply(201, {"deposit": 2}))
+        same("1 MiB in pieces", exchanged(server.port, pieces), reference.deposited(2))
         same("bytes end", server.ended(), 0)
 
 
@@ -397,7 +400,7 @@ def test_stops(folder: str) -> None:
                             if not more:
                                 raise OSError
                             back += more
-                        answered[f"t{token}"] = int(back[back.index(b'"deposit":') + 10 : -1])
+                        answered[f"t{token}"] = int(re.findall(rb'"deposit":(\d+)', back)[0])
             except OSError:
                 pass
             timer.join()
@@ -464,7 +467,7 @@ def test_syncs(folder: str, stored: int) -> None:
             for number in range(stored + 1, stored + 9):
                 reply = replied(peer, deposit("ann", f"t{number}", BLOCKS))
                 totals.append(os.path.getsize(counts))
-                same(f"deposit {number} in {name}", reply, reference.json_reply(201, {"deposit": number}))
+                same(f"deposit {number} in {name}", reply, reference.deposited(number))
             shown = reference.reply(200, "text/plain", GLIDER_TEXT if stored else BLOCKS_TEXT)
             same(f"the first deposit in {name}", replied(peer, message("GET", "/deposits/1")), shown)
         same(f"the end of a server on {name}", server.ended(), 0)

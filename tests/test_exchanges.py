@@ -31,6 +31,7 @@ from fake_systemd import (
     write_wrong_row,
 )
 from ledger import rows_of
+from reference import deposit_body
 
 pytestmark = [pytest.mark.full, pytest.mark.usefixtures("program")]
 
@@ -92,7 +93,7 @@ def back(club: Club, pair: str) -> None:
     status, out, err = club.restore(pair)
     check(f"the way back: {out}{err}", (status, err) == (0, "") and club.serves(FIVE) and rows_of(pair) == FIVE)
     check(
-        "numbers continue from there", b'{"deposit":6}' in exchanged(club.port, [deposit("fay", "t1", file_of("fay"))])
+        "numbers continue from there", deposit_body(6) in exchanged(club.port, [deposit("fay", "t1", file_of("fay"))])
     )
     check("copies continue from there", club.copy()[0] == 0 and len(rows_of(club.newest()) or {}) == 6)
     club.systemctl("stop")
@@ -237,7 +238,7 @@ def test_gone_while_served(folder: str, harm: Callable[[ClubOfFive], None]) -> N
     check(f"{name}: the copy with the log: {out}{err}", (status, err) == (0, "") and club.serves(club.ledger))
     check(
         f"{name}: the service continues",
-        b'{"deposit":9}' in exchanged(club.port, [deposit("fay", "t1", file_of("fay"))]) and club.copy()[0] == 0,
+        deposit_body(9) in exchanged(club.port, [deposit("fay", "t1", file_of("fay"))]) and club.copy()[0] == 0,
     )
     check(
         f"{name}: not where the archive can be read",

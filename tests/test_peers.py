@@ -474,7 +474,7 @@ def test_two_programs(folder: str) -> None:
         same(
             "the server continues",
             exchanged(server.port, [deposit("ann", "t2", BLOCKS)]),
-            reference.json_reply(201, {"deposit": 2}),
+            reference.deposited(2),
         )
         same("the server has all", exchanged(server.port, [message("GET", "/deposits/1")]), SHOWN)
         same("the end of the server", server.ended(), 0)

@@ -12,6 +12,7 @@ import pytest
 
 import clients
 from clients import BLOCKS, GLIDER, Server, check, same
+from reference import deposit_body
 from scripts import EXAMPLES, TOP, UNFINISHED, Said, digest, is_unanswered, new_folder, script, url
 
 pytestmark = pytest.mark.quick
@@ -134,7 +135,7 @@ def test_texts_of_a_folder(room: str, program: str) -> None:
         )
         for number, name in enumerate(names, 1):
             content, texts = TEXTS[name]
-            same(f"what is sent of {name!r}", answered(server, texts + content), f'{{"deposit":{number}}}')
+            same(f"what is sent of {name!r}", answered(server, texts + content), deposit_body(number).decode())
             with open(os.path.join(folder, name), "rb") as file:
                 same(f"the file {name!r} is as it was", file.read(), content)
         one = new_folder(room, "one text", {"my-gun.rle": BARE})
@@ -149,7 +150,7 @@ def test_texts_of_a_folder(room: str, program: str) -> None:
             == (0, f"{len(names) + 1}\t{one}/my-gun.rle\n", "")
             and script("put-folder", "--author", "A\nB", url(server), "ann", one)[1]
             == f"{len(names) + 2}\t{one}/my-gun.rle\n"
-            and answered(server, b"#O A B\n" + BARE) == f'{{"deposit":{len(names) + 2}}}',
+            and answered(server, b"#O A B\n" + BARE) == deposit_body(len(names) + 2).decode(),
         )
         bad = new_folder(
             room, "bad texts", {"cut.rle": UNFINISHED, "long.rle": b"x = 1, y = 1\no!" + b" " * (1_048_576 - 15)}

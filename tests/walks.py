@@ -15,6 +15,7 @@ import ledger
 from clients import deposit, exchanged
 from fake_systemd import DEPLOY, Answer, Club, content, deposit_of, file_of, small_disk, write
 from ledger import Ledger, rows_of
+from reference import deposit_body
 
 SIGNALS = (signal.SIGINT, signal.SIGTERM, signal.SIGHUP, signal.SIGKILL)
 # The most deposits of a walk: each is read again after each step.
@@ -105,7 +106,7 @@ class Walk:
         member = f"m{self.given}"
         reply = exchanged(self.club.port, [deposit(member, "t1", file_of(member))])
         number = len(self.truth) + 1
-        require(reply.endswith(b'{"deposit":%d}' % number), f"a deposit is answered {reply[-80:]!r}")
+        require(reply.endswith(deposit_body(number)), f"a deposit is answered {reply[-80:]!r}")
         self.truth = {**self.truth, number: deposit_of(member)}
 
     def stop(self) -> None:

@@ -42,6 +42,8 @@ def words(room: str, programs: dict[str, str]) -> str:
 # ---- the words of the programs
 
 CALLED = ["life", "life-draw", "life-haul"]
+with open(os.path.join(TOP, "docs", "COMMANDS.md"), encoding="utf-8") as commands:
+    SUBCOMMANDS = sorted({*re.findall(r"(?m)^## `life ([a-z]+)", commands.read()), "help"})
 # What is typed, the last word unfinished, and what a shell may put in its place.
 OPTIONS = {
     "check": ["--db", "--help", "--quick"],
@@ -49,7 +51,7 @@ OPTIONS = {
     "serve": ["--connections", "--db", "--help", "--port"],
 }
 TYPED: list[tuple[str, list[str]]] = [
-    ("life ", ["census", "check", "deposit", "explain", "generation", "help", "kind", "object", "serve"]),
+    ("life ", SUBCOMMANDS),
     ("life de", ["deposit"]),
     ("life z", []),
     ("life deposit --", OPTIONS["deposit"]),

@@ -23,7 +23,7 @@ loading.ENABLED_SITE = site = f"{folder}/nginx.conf"
 loading.READ = {loading.NGINX: f"{folder}/nginx.read", loading.GATEWAY: f"{folder}/haproxy.read"}
 loading.HAPROXY, loading.TAKEN_WITHIN = f"{folder}/haproxy.cfg", 3
 try:
-    loading.load([], {"LISTEN": f"127.0.0.1:{port}", "HOST": "", "TLS": "no"}, site)
+    loading.load(sys.argv[4:], {"LISTEN": f"127.0.0.1:{port}", "HOST": "", "TLS": "no"}, site)
 except BadSetting as fault:
     sys.exit(str(fault))
 """
@@ -103,10 +103,11 @@ class Loaded:
     def own_line(self, text: str) -> None:
         write(os.path.join(self.folder, "site.d", "own.conf"), text)
 
-    def load(self) -> tuple[int, str, str]:
+    def load(self, *changed: str) -> tuple[int, str, str]:
+        """What life-configure says if it has changed these units."""
         path = f"{self.folder}/bin:{os.environ['PATH']}"
         done = subprocess.run(
-            [sys.executable, "-c", LOADING, DEPLOY, self.folder, str(self.port)],
+            [sys.executable, "-c", LOADING, DEPLOY, self.folder, str(self.port), *changed],
             capture_output=True,
             text=True,
             timeout=60,

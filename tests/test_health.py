@@ -766,13 +766,18 @@ def test_replaced_program(loaded: Loaded) -> None:
 
 
 def test_failed_proxy(loaded: Loaded) -> None:
-    """HAProxy is started with a new configuration if it has failed with the old one, and not if it was stopped."""
+    """HAProxy is started with a new configuration if it has failed with the old one, and not if it was stopped;
+    its unit may have changed, too."""
     loaded.load()
-    for state, wanted in (
-        ("inactive", ""),
-        ("failed", "systemctl reset-failed life-gateway.service\nsystemctl reload-or-restart life-gateway.service\n"),
-        ("active", ""),
+    unit = "life-gateway.service"
+    restarted = f"systemctl daemon-reload\nsystemctl try-restart {unit}\n"
+    started = f"systemctl reset-failed {unit}\nsystemctl reload-or-restart {unit}\n"
+    for state, changed, wanted in (
+        ("inactive", [], ""),
+        ("inactive", [unit], restarted),
+        ("failed", [unit], restarted + started),
+        ("active", [], ""),
     ):
         write(os.path.join(loaded.folder, "haproxy.state"), state)
-        same(f"HAProxy is {state}", loaded.load(), (0, wanted, ""))
+        same(f"HAProxy is {state}, changed: {changed}", loaded.load(*changed), (0, wanted, ""))
         os.utime(os.path.join(loaded.folder, "haproxy.cfg"), (time.time() - 9, time.time() - 9))

@@ -127,7 +127,8 @@ def load_units(changed: list[str]) -> bool:
     names = [name for name in UNITS if name in changed or name in stale or runs_replaced(name)]
     for name in names:
         systemctl("try-restart", name)
-    if GATEWAY in names and os.path.exists(HAPROXY):
+    # If it was stopped or had failed, it was not restarted, and has read nothing.
+    if GATEWAY in names and shown(GATEWAY, "ActiveState") == "active" and os.path.exists(HAPROXY):
         note_read(GATEWAY, haproxy_digest())
     return bool(stale or names)
 

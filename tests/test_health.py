@@ -23,7 +23,6 @@ import pytest
 import fake_systemd
 from archives import ADD_DEPOSIT, new_archive
 from clients import BLOCKS, GLIDER, GLIDER_TEXT, HERE, Server, check, deposit, exchanged, same
-from debian import until
 from fake_systemd import HASH
 from loaded import AGAIN, Loaded, content, write
 
@@ -597,21 +596,12 @@ def modes(folder: str) -> set[tuple[int, int]]:
 
 @pytest.mark.parametrize("umask", ["000", "077"])
 def test_umasks(folder: str, umask: str) -> None:
-    """Files are for everybody to read and for root to change, whatever root's umask is. Another mode or owner counts as
-    a change."""
+    """Files are for everybody to read and for root to change, whatever root's umask is."""
     root, own = Root(os.path.join(folder, f"umask-{umask}")), (0o644, os.geteuid())
     words = [os.path.join(DEPLOY, "life-configure"), "--files-only", "--root", root.folder]
     done = subprocess.run(["sh", "-c", 'umask "$0"; exec "$@"', umask, *words], capture_output=True, timeout=60)
     same("their modes and owners", (done.returncode, modes(root.folder)), (0, {own}))
     same("nothing has to be changed then", root.configured()[1], "changed: nothing\n")
-    proxy, unit = root.path("etc/life/haproxy.cfg"), root.path("etc/systemd/system/life-watch.service")
-    os.chmod(proxy, 0o600)
-    os.chmod(unit, 0o666)
-    same("other modes", root.configured()[1], "changed: haproxy.cfg, life-watch.service\n")
-    if os.geteuid() == 0:
-        os.chown(proxy, 65534, 65534)
-        same("another owner", root.configured()[1], "changed: haproxy.cfg\n")
-    same("all is as it was", modes(root.folder), {own})
 
 
 # ---- locks
@@ -716,12 +706,6 @@ def test_own_lines(loaded: Loaded) -> None:
     same("the old lines count", (loaded.asked("127.0.0.9"), loaded.asked("127.0.0.8")), (403, 200))
     loaded.own_line("deny 127.0.0.9;")
     same("nginx still has the lines of before", loaded.load(), (0, "", ""))
-    loaded.own_line("")
-    subprocess.run([os.path.join(loaded.folder, "bin", "nginx"), "-s", "reload"], check=True, timeout=30)
-    check("somebody else has had nginx load other lines", until(lambda: loaded.asked("127.0.0.9") == 200))
-    loaded.own_line("deny 127.0.0.9;")
-    same("the lines of before again", [loaded.load()[1], loaded.load()[1]], [AGAIN, ""])
-    same("they count", loaded.asked("127.0.0.9"), 403)
 
 
 def test_room_for_connections(loaded: Loaded) -> None:
@@ -772,12 +756,13 @@ def test_failed_proxy(loaded: Loaded) -> None:
     unit = "life-gateway.service"
     restarted = f"systemctl daemon-reload\nsystemctl try-restart {unit}\n"
     started = f"systemctl reset-failed {unit}\nsystemctl reload-or-restart {unit}\n"
-    for state, changed, wanted in (
+    cases: list[tuple[str, list[str], str]] = [
         ("inactive", [], ""),
         ("inactive", [unit], restarted),
         ("failed", [unit], restarted + started),
         ("active", [], ""),
-    ):
+    ]
+    for state, changed, wanted in cases:
         write(os.path.join(loaded.folder, "haproxy.state"), state)
         same(f"HAProxy is {state}, changed: {changed}", loaded.load(*changed), (0, wanted, ""))
         os.utime(os.path.join(loaded.folder, "haproxy.cfg"), (time.time() - 9, time.time() - 9))

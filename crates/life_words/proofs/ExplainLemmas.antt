@@ -1,5 +1,5 @@
 -- Which names the table of explanations has.
-use Rattle.std.proofs.Common.{◌≡◌, ℕ, Bool, true, false, List, [], ◌∷◌, Option, None, Some, refl, ap, ◌∙◌}
+use Rattle.std.proofs.Common.{◌≡◌, ℕ, Bool, true, false, List, [], ◌∷◌, Option, None, Some, refl}
 use Rattle.std.specs.Prelude.{is_some, option_map, bytes_eq}
 use Rattle.std.specs.List.{list_any}
 use Rattle.std.specs.Borrow.{Bor}
@@ -23,12 +23,7 @@ pub is_some-now : (text : Option (Bor (List ℕ))) → is_some text ≡ is_some 
 is_some-now None = refl
 is_some-now (Some text) = refl
 
--- the names of the table are those that are stated
-pub names_are : names_of explanations ≡ refusal_names
-unfolding explanations refusal_names
-names_are = refl
-
 -- there is an explanation exactly of the names that are stated
 pub is_some-explanation_of : (name : List ℕ) → is_some (explanation_of name) ≡ is_refusal name
-unfolding explanation_of is_refusal
-is_some-explanation_of name = is_some-text_in explanations name ∙ ap (list_any (λ known. bytes_eq known name)) names_are
+unfolding explanation_of is_refusal refusal_names
+is_some-explanation_of name = is_some-text_in explanations name

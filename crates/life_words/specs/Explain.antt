@@ -1,54 +1,8 @@
--- The explanations of refusals. The names are listed here; the texts come from the table in `src/explain.rt`.
-use Rattle.std.specs.Prelude.{ℕ, Bool, List, [], ◌∷◌, codes, bytes_eq, find, map, Option, option_map, unwrap_or}
+-- The explanations of refusals: the rows of the table in `src/explain.rt`, each a name and its text.
+use Rattle.std.specs.Prelude.{ℕ, Bool, List, [], bytes_eq, find, map, Option, option_map, unwrap_or}
 use Rattle.std.specs.Borrow.{Bor}
 use Rattle.std.specs.List.{list_any}
 use Rattle.life_words.specs.declared.explain.TheConstants.{EXPLANATIONS}
-
--- ---- names
-
--- the names of all refusals and faults: over HTTP, of pattern files, of codes, of the programs and of the gateway
-unfoldable pub refusal_names : List (List ℕ)
-refusal_names =
-    codes "bad-code" ∷
-    codes "bad-count" ∷
-    codes "bad-header" ∷
-    codes "bad-member" ∷
-    codes "bad-message" ∷
-    codes "bad-method" ∷
-    codes "bad-pattern" ∷
-    codes "bad-rule" ∷
-    codes "bad-text" ∷
-    codes "bad-token" ∷
-    codes "birth-zero" ∷
-    codes "full" ∷
-    codes "no-end" ∷
-    codes "no-header" ∷
-    codes "no-port" ∷
-    codes "no-reply" ∷
-    codes "no-such-census" ∷
-    codes "no-such-deposit" ∷
-    codes "no-such-page" ∷
-    codes "not-canonical" ∷
-    codes "not-ours" ∷
-    codes "not-sound" ∷
-    codes "not-within-limit" ∷
-    codes "other-tag" ∷
-    codes "out-of-limit" ∷
-    codes "password" ∷
-    codes "text-limit" ∷
-    codes "token-reused" ∷
-    codes "too-long" ∷
-    codes "too-many-requests" ∷
-    codes "too-wide" ∷
-    codes "unavailable" ∷
-    codes "unknown" ∷
-    codes "unreadable" ∷ []
-
--- whether `life explain` knows this name: "full" is known, "Full" is not
-unfoldable pub is_refusal : List ℕ → Bool
-is_refusal name = list_any (λ known. bytes_eq known name) refusal_names
-
--- ---- texts
 
 -- a table: each row has a name and its text
 abbrev pub Rows : Type 0
@@ -68,6 +22,14 @@ text_in rows name = option_map (λ row. row.1) (find (λ row. bytes_eq row.0 nam
 -- the rows of the program's table
 unfoldable pub explanations : Rows
 explanations = map (λ row. (row.0.now, row.1.now)) EXPLANATIONS
+
+-- the names of all refusals and faults: over HTTP, of pattern files, of codes, of the programs and of the gateway
+unfoldable pub refusal_names : List (List ℕ)
+refusal_names = names_of explanations
+
+-- whether `life explain` knows this name: "full" is known, "Full" is not
+unfoldable pub is_refusal : List ℕ → Bool
+is_refusal name = list_any (λ known. bytes_eq known name) refusal_names
 
 -- the explanation of a name, if there is one
 unfoldable pub explanation_of : List ℕ → Option (List ℕ)

@@ -1,5 +1,5 @@
 -- A generation of a frame of whole blocks, and the blocks that need no step because they have it already.
-use Rattle.std.specs.Prelude.{◌≡◌, ◌⊎◌, ℕ, ◌+◌, ◌-◌, ◌*◌, ◌<◌, ◌≤◌, false, List, length, nat_eq}
+use Rattle.std.specs.Prelude.{◌≡◌, ◌⊎◌, ℕ, zero, suc, ◌+◌, ◌-◌, ◌*◌, ◌<◌, ◌≤◌, false, List, length, nat_eq, refl}
 use Rattle.std.proofs.Common.{sym, ap, subst, ◌∙◌, inl, inr, arith}
 use Rattle.std.specs.FinSet as set
 use Rattle.life_core.specs.declared.packed.frame.Frame.{Frame}
@@ -9,22 +9,43 @@ use Rattle.life_core.specs.PackedRow.{one_if, place}
 use Rattle.life_core.specs.PackedFrameState.{cell_in, framed}
 use Rattle.life_core.specs.PackedBlocksState.{flat_next}
 use Rattle.life_core.specs.PackedMarksState.{IsMarked, AreNeighboursMarked, IsAdvanced, mark_at, place_at}
+use Rattle.life_core.proofs.LanePlaces.{place-lt}
+use Rattle.life_core.proofs.PackedCells.{place_is_live}
 use Rattle.life_core.proofs.FlatSteps.{HasDeadEdges, flat_is}
 
 -- the block of a place in a row
 pub place_of : (columns z c i p : ℕ) → (16 * z + i) * (64 * (2 * columns)) + (128 * c + p) ≡ place_at columns z c i p
 place_of columns z c i p = omega arith
 
--- whether a cell of a block is live next, as a number
-abbrev pub next_at : Frame → RuleSets → List ℕ → ℕ → ℕ → ℕ → ℕ → ℕ
-next_at f r rows z c i p =
-    one_if (set.contains (next r (framed f rows)) (cell_in f.left f.top (128 * c + p) (16 * z + i)))
-
 -- a frame of so many lines and columns of blocks
 pub record IsOfBlocks (f : Frame) (columns lines : ℕ) : Type 0 where
   pub wide : f.words ≡ 2 * columns
   pub tall : f.height ≡ 16 * lines
   pub some : 0 < columns
+
+bit_is : (b : ℕ) → b < 2 → one_if (nat_eq b 1) ≡ b
+bit_is zero lt = refl
+bit_is (suc zero) lt = refl
+bit_is (suc (suc b)) lt = absurd (omega arith)
+
+-- a place of a block says whether its cell is live
+pub block_place : (f : Frame) (columns lines : ℕ) (rows : List ℕ) → IsOfBlocks f columns lines
+    → f.height * f.words ≡ length rows
+    → (z c i p : ℕ) → z < lines → c < columns → i < 16 → p < 128 → place rows (place_at columns z c i p)
+    ≡ one_if (set.contains (framed f rows) (cell_in f.left f.top (128 * c + p) (16 * z + i)))
+block_place f columns lines rows of size z c i p low within row narrow =
+    let W : 64 * f.words ≡ 64 * (2 * columns) = ap (λ (w : ℕ). 64 * w) of.wide in
+    let at : (16 * z + i) * (64 * f.words) + (128 * c + p) ≡ place_at columns z c i p =
+    ap (λ (w : ℕ). (16 * z + i) * w + (128 * c + p)) W ∙ place_of columns z c i p in
+    let q : ℕ = (16 * z + i) * (64 * f.words) + (128 * c + p) in
+    ap (place rows) (sym at) ∙ sym (bit_is (place rows q) (place-lt rows q))
+    ∙ ap one_if (sym (place_is_live f rows (omega (arith, of.wide, of.some)) size (128 * c + p)
+    (16 * z + i) (omega (arith, of.wide, within, narrow)) (omega (arith, of.tall, low, row))))
+
+-- whether a cell of a block is live next, as a number
+abbrev pub next_at : Frame → RuleSets → List ℕ → ℕ → ℕ → ℕ → ℕ → ℕ
+next_at f r rows z c i p =
+    one_if (set.contains (next r (framed f rows)) (cell_in f.left f.top (128 * c + p) (16 * z + i)))
 
 -- what the list's neighbours make of a place of a block is the next set's
 pub block_is : (f : Frame) (columns lines : ℕ) (r : RuleSets) (rows : List ℕ) → IsOfBlocks f columns lines

@@ -21,13 +21,13 @@ use Rattle.life_core.proofs.SettledBlocks.{settled_block}
 use Rattle.life_core.proofs.BlockGenerations.{next_rows}
 use Rattle.life_core.proofs.BlockRoom.{room_of, slack_less, dead_edges, dead_guards, first_words, last_words}
 
--- what is not marked was not before more was
-unmarked : (old new : List ℕ) → KeepsMarks old new → (j : ℕ) → place new j ≡ 0 → place old j ≡ 0
-unmarked old new keeps j none = elim (cases_eq (place old j) 0) [
+-- if old mark j is set only where new mark k is, and k is not set, neither was j
+pub unmarked : (old new : List ℕ) (j k : ℕ) → (IsMarked old j → IsMarked new k) → place new k ≡ 0 → place old j ≡ 0
+unmarked old new j k kept none = elim (cases_eq (place old j) 0) [
   | inl blank ↦ blank
   | inr some ↦
       let one : place old j ≡ 1 = omega (arith, some, place-lt old j) in
-      absurd (omega (arith, none, keeps.set j one))
+      absurd (omega (arith, none, kept one))
 ]
 
 -- marks of which all are set, unless rows follow
@@ -44,7 +44,9 @@ idle_before : {P : Type 0} (f : Frame) (follows : Bool) (marks raised : List ℕ
 idle_before {P} f follows marks raised long m z c low narrow idle then = by follows refl
   where
     by : (b : Bool) → follows ≡ b → P
-    by true t = then t (unmarked marks raised m.kept (mark_at (f.words / 2) z c) idle)
+    by true t =
+        let j = mark_at (f.words / 2) z c in
+        then t (unmarked marks raised j j (m.kept.set j) idle)
     by false t =
         let few = mul-le (z + 1) (f.words / 2) (f.height / 16) (f.words / 2) (omega (arith, low)) (omega arith) in
         absurd (omega (
@@ -122,12 +124,3 @@ module _ (f : Frame) (r : RuleSets) (rows old new : List ℕ) (follows : Bool) (
         as_blocks : (ws : List ℕ) → HasDeadEdges (64 * f.words) f.height ws
             → HasDeadEdges (64 * (2 * columns)) (16 * lines) ws
         as_blocks ws = subst (λ (p : ℕ × ℕ). HasDeadEdges p.0 p.1 ws) (λ t. (64 * whole.wide t, whole.tall t))
-
--- where all blocks are marked, none is idle
-pub all_settled : (f : Frame) (r : RuleSets) (rows out marks : List ℕ) → AreMarks f marks
-    → ((j : ℕ) → j < 64 * length marks → IsMarked marks j) → AreSettled f r rows out marks
-all_settled f r rows out marks long set = record {
-  places = λ z c i p first last narrow small inside idle.
-      let few = mul-le (z + 1) (f.words / 2) (f.height / 16) (f.words / 2) (omega (arith, last)) (omega arith) in
-      absurd (omega (arith, idle, set (mark_at (f.words / 2) z c) (omega (arith, long.count, few, narrow))));
-}

@@ -45,6 +45,7 @@ pub mod SettledBlocks
 pub mod BlockGenerations
 pub mod BlockRoom
 pub mod BlockSteps
+pub mod MovedMarks
 pub mod RuleForms
 pub mod RowLanes
 pub mod RowSets

@@ -1,5 +1,5 @@
 -- For blocks that no change reached, the rows before already have the next generation.
-use Rattle.std.specs.Prelude.{◌≡◌, ◌⊎◌, ℕ, zero, suc, ◌+◌, ◌-◌, ◌*◌, ◌/◌, ◌<◌, ◌≤◌, false, List, length, nat_eq, refl}
+use Rattle.std.specs.Prelude.{◌≡◌, ◌⊎◌, ℕ, zero, suc, ◌+◌, ◌-◌, ◌*◌, ◌/◌, ◌<◌, ◌≤◌, false, List, length, refl}
 use Rattle.std.proofs.Common.{get_or, sym, ap, subst, ◌∙◌, inl, inr, arith}
 use Rattle.std.proofs.lemmas.Bool.{cases_lt}
 use Rattle.std.specs.FinSet as set
@@ -8,19 +8,13 @@ use Rattle.life_core.specs.Rule.{RuleSets}
 use Rattle.life_core.specs.Generations.{next}
 use Rattle.life_core.specs.PackedRow.{one_if, place}
 use Rattle.life_core.specs.PackedFrameState.{cell_in, framed}
-use Rattle.life_core.proofs.PackedCells.{place_is_live}
 use Rattle.life_core.specs.PackedBlocksState.{flat_next}
 use Rattle.life_core.specs.PackedMarksState.{IsAdvanced, block_at, mark_at, place_at}
-use Rattle.life_core.proofs.LanePlaces.{place_word, place-lt}
+use Rattle.life_core.proofs.LanePlaces.{place_word}
 use Rattle.life_core.proofs.BlockLines.{in_line}
 use Rattle.life_core.proofs.FlatSteps.{HasDeadEdges}
-use Rattle.life_core.proofs.BlockPlanes.{place_of, next_at, IsOfBlocks, block_is, IsLineBeside, IsColumnBeside}
-use Rattle.life_core.proofs.BlockPlanes.{unchanged_beside, same_next}
-
-bit_is : (b : ℕ) → b < 2 → one_if (nat_eq b 1) ≡ b
-bit_is zero lt = refl
-bit_is (suc zero) lt = refl
-bit_is (suc (suc b)) lt = absurd (omega arith)
+use Rattle.life_core.proofs.BlockPlanes.{place_of, next_at, IsOfBlocks, block_place, block_is, IsLineBeside}
+use Rattle.life_core.proofs.BlockPlanes.{IsColumnBeside, unchanged_beside, same_next}
 
 module _ (N : ℕ → ℕ) (columns lines : ℕ) (marks nm old new : List ℕ)
     (guards : (j : ℕ) → (j < block_at columns 1 0) ⊎ (block_at columns (lines - 1) 0 ≤ j)
@@ -174,13 +168,7 @@ module _ (N : ℕ → ℕ) (columns lines : ℕ) (marks nm old new : List ℕ)
         → (i p : ℕ) → 1 ≤ z → z + 2 ≤ lines → i < 16 → p < 128
         → place rows (place_at columns z c i p) ≡ next_at f r new z c i p
     settled_block f r rows of quiet size size_old size_new edges_old edges_new follows i p first last row narrow =
-        let W : 64 * f.words ≡ 64 * (2 * columns) = ap (λ (w : ℕ). 64 * w) of.wide in
-        let at : (16 * z + i) * (64 * f.words) + (128 * c + p) ≡ place_at columns z c i p =
-        ap (λ (w : ℕ). (16 * z + i) * w + (128 * c + p)) W ∙ place_of columns z c i p in
-        let q : ℕ = (16 * z + i) * (64 * f.words) + (128 * c + p) in
-        ap (place rows) (sym at) ∙ sym (bit_is (place rows q) (place-lt rows q))
-        ∙ ap one_if (sym (place_is_live f rows (omega (arith, of.wide, of.some)) size (128 * c + p)
-        (16 * z + i) (omega (arith, of.wide, within, narrow)) (omega (arith, of.tall, last, row))))
+        block_place f columns lines rows of size z c i p (omega (arith, last)) within row narrow
         ∙ ap (λ X. one_if (set.contains X (cell_in f.left f.top (128 * c + p) (16 * z + i)))) follows
         ∙ sym (block_is f columns lines r old of quiet size_old edges_old z c i p first last within row narrow)
         ∙ sym (next_stays r i p first last row narrow)

@@ -28,9 +28,11 @@ pub record HasSlack (f : Frame) (n : ℕ) (X : Cells) : Type 0 where
 abbrev pub checked_room : ℕ → ℕ
 checked_room n = if nat_eq n 0 then 31 else n
 
--- a frame that contains f and has w.left more words on the left and w.top more rows at the top
+-- a frame that contains f and has w.left more words on the left and w.top more rows at the top, both in whole blocks
 pub record IsWider (f : Frame) (w : Wider) : Type 0 where
   pub left : w.frame.left ≡ f.left -ℤ pos (64 * w.left)
   pub top : w.frame.top ≡ f.top -ℤ pos w.top
   pub wide : w.left + f.words ≤ w.frame.words
   pub tall : w.top + f.height ≤ w.frame.height
+  pub columns : w.left ≡ 2 * (w.left / 2)
+  pub lines : w.top ≡ 16 * (w.top / 16)

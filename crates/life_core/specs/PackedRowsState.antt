@@ -3,17 +3,23 @@ use Rattle.std.specs.Prelude.{◌≡◌, ℕ, ◌+◌, ◌*◌, ◌/◌, ◌<◌
 use Rattle.std.specs.FinSet as set
 use Rattle.life_core.specs.declared.cell.TheConstants.{PLANE}
 use Rattle.life_core.specs.declared.packed.frame.Frame.{Frame}
+use Rattle.life_core.specs.declared.packed.margins.Wider.{Wider}
 use Rattle.life_core.specs.Pattern.{IsWithin}
 use Rattle.life_core.specs.Rule.{RuleSets}
 use Rattle.life_core.specs.Generations.{next}
 use Rattle.life_core.specs.PackedRow.{one_if, place}
 use Rattle.life_core.specs.PackedFrameState.{cell_in, framed, IsFrame}
-use Rattle.life_core.specs.PackedMarksState.{mark_at, place_at}
+use Rattle.life_core.specs.PackedMarksState.{IsMarked, mark_at, place_at}
 use Rattle.life_core.specs.PackedMarginsState.{IsWhole, HasSlack}
 
 -- a mark for each block, with one more at each end
 pub record AreMarks (f : Frame) (marks : List ℕ) : Type 0 where
   pub count : mark_at (f.words / 2) (f.height / 16) 0 < 64 * length marks
+
+-- each marked block between the first and the last line is also marked in the wider frame
+pub record AreMoved (f : Frame) (w : Wider) (old new : List ℕ) : Type 0 where
+  pub marked : (z c : ℕ) → 1 ≤ z → z + 2 ≤ f.height / 16 → c < f.words / 2 → IsMarked old (mark_at (f.words / 2) z c)
+      → IsMarked new (mark_at (w.frame.words / 2) (w.top / 16 + z) (w.left / 2 + c))
 
 -- between the first and the last line, out has the next generation of each block that is not marked
 pub record AreSettled (f : Frame) (r : RuleSets) (rows out marks : List ℕ) : Type 0 where

@@ -62,7 +62,7 @@ pub(crate) fn next_mark(marks: &[u64], from: usize, to: usize) -> usize
 
 /// Sets a mark.
 #[inline(always)]
-fn set_mark(marks: &mut [u64], j: usize)
+pub(crate) fn set_mark(marks: &mut [u64], j: usize)
     requires { j < 64 * length marks.old }
     ensures kept { KeepsMarks marks.old marks.new }
     ensures set { IsMarked marks.new j }

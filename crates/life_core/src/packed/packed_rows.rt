@@ -3,15 +3,16 @@ ghost use Rattle.std.specs.Prelude.{◌≡◌, ◌↔◌, ◌⊎◌, ℕ, pos, �
 ghost use Rattle.life_core.specs.Generations.{next};
 ghost use Rattle.life_core.specs.PackedBlocksState.{flat_next};
 ghost use Rattle.life_core.specs.PackedFrameState.{framed, IsFrame};
-ghost use Rattle.life_core.specs.PackedMarginsState.{HasSlack, IsWhole};
+ghost use Rattle.life_core.specs.PackedMarginsState.{HasSlack, IsWhole, IsWider};
 ghost use Rattle.life_core.specs.PackedMarksState.{IsAdvanced, IsMarked, KeepsMarks, block_at, mark_at};
-ghost use Rattle.life_core.specs.PackedRowsState.{AreMarks, AreSettled};
+ghost use Rattle.life_core.specs.PackedRowsState.{AreMarks, AreMoved, AreSettled};
 
 use crate::core_fault::Fault;
 use crate::packed::block_lines::advance_blocks;
+use crate::packed::block_marks::{next_mark, set_mark};
 use crate::packed::frame::Frame;
 use crate::packed::lane_rule::ConwayLife;
-use crate::packed::margins::{room_after_check, with_room};
+use crate::packed::margins::{Wider, room_after_check, with_room};
 use crate::packed::packing::{list_cells, moved_rows, words_of, zeros};
 use crate::packed::rule_form::RuleForm;
 use crate::packed::shifts::shift_of_words;
@@ -88,7 +89,7 @@ impl<A: Allocator + Copy> Plane<A> for PackedRows<A> {
             let alloc = *self.rows.allocator();
             let rows = moved_rows(alloc, self.frame, &self.rows, wider)?;
             let spare = moved_rows(alloc, self.frame, &self.spare, wider)?;
-            let marks = all_marks(alloc, wider.frame)?;
+            let marks = moved_marks(alloc, self.frame, &self.marks, wider)?;
             let next_marks = marks_of(alloc, wider.frame)?;
             self.frame = wider.frame;
             self.rows = rows;
@@ -151,14 +152,63 @@ fn marks_of<A: Allocator>(alloc: A, frame: Frame) -> Result<Vec<u64, A>, AllocEr
     zeros(alloc, mark_words(frame))
 }
 
-/// Marks for the blocks of the frame, all set.
-fn all_marks<A: Allocator>(alloc: A, frame: Frame) -> Result<Vec<u64, A>, AllocError>
-    requires { IsFrame frame }
-    ensures marks { IfOk result (λ m. AreMarks frame m.items) }
-    ensures set { IfOk result (λ m. (j : ℕ) → j < 64 * length m.items → IsMarked m.items j) }
+/// The marks of the same blocks in a wider frame. The blocks that it adds need none: they are dead, and still will be
+/// after the next step.
+fn moved_marks<A: Allocator>(
+    alloc: A,
+    from: Frame,
+    marks: &[u64],
+    to: Wider,
+) -> Result<Vec<u64, A>, AllocError>
+    requires from { IsFrame from }
+    requires whole { IsWhole from }
+    requires to { IsFrame to.frame }
+    requires wider { IsWider from to }
+    requires marks { AreMarks from marks.now }
+    ensures marks { IfOk result (λ m. AreMarks to.frame m.items) }
+    ensures moved { IfOk result (λ m. AreMoved from to marks.now m.items) }
 {
-    let marks = vec![in alloc; u64::MAX; mark_words(frame)]?;
-    Ok(marks)
+    let mut moved = marks_of(alloc, to.frame)?;
+    copy_marks(from, marks, to, &mut moved);
+    Ok(moved)
+}
+
+/// Sets the mark in the wider frame of each marked block. Blocks of the first and the last line need none, for the same
+/// reason.
+fn copy_marks(from: Frame, marks: &[u64], to: Wider, out: &mut [u64])
+    requires from { IsFrame from }
+    requires whole { IsWhole from }
+    requires to { IsFrame to.frame }
+    requires wider { IsWider from to }
+    requires marks { AreMarks from marks.now }
+    requires out { AreMarks to.frame out.old }
+    ensures long { length out.new ≡ length out.old }
+    ensures moved { AreMoved from to marks.now out.new }
+{
+    let columns = from.words / 2;
+    let end = 1 + (from.height / 16 - 1) * columns;
+    let mut b = next_mark(marks, 1 + columns, end);
+    while b < end {
+        set_mark(out, moved_mark(from, b, to));
+        b = next_mark(marks, b + 1, end);
+    }
+}
+
+/// The mark in the wider frame of the block with mark `b`.
+fn moved_mark(from: Frame, b: usize, to: Wider) -> usize
+    requires from { IsFrame from }
+    requires whole { IsWhole from }
+    requires to { IsFrame to.frame }
+    requires wider { IsWider from to }
+    requires first { 1 ≤ b }
+    requires last { b < mark_at (from.words / 2) (from.height / 16) 0 }
+    ensures last { result < mark_at (to.frame.words / 2) (to.frame.height / 16) 0 }
+    ensures moved { (line column : ℕ) → column < from.words / 2 → b ≡ mark_at (from.words / 2) line column → result ≡ mark_at (to.frame.words / 2) (to.top / 16 + line) (to.left / 2 + column) }
+{
+    let columns = from.words / 2;
+    let line = to.top / 16 + (b - 1) / columns;
+    let column = to.left / 2 + (b - 1) % columns;
+    1 + line * (to.frame.words / 2) + column
 }
 
 /// Shortens the marks to the length for a narrower frame. Their values mean nothing there; the next step sets them all.

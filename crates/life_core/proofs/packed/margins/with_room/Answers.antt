@@ -48,6 +48,8 @@ returns-clause-wider c =
       top = n.top;
       wide = omega (arith, n.words);
       tall = omega (arith, n.height);
+      columns = omega arith;
+      lines = omega arith;
     }
 
 pub returns-clause-whole : goal.returns-clause-whole

@@ -17,6 +17,8 @@ returns-clause-frame c =
         top = omega (arith, ints, n.top);
         wide = omega (arith, n.words);
         tall = omega (arith, n.height);
+        columns = omega arith;
+        lines = omega arith;
       };
       dead = λ y j low inside beside. elim beside [
         | inl rows ↦ elim rows [

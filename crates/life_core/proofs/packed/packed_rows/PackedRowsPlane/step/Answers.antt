@@ -6,10 +6,10 @@ use Rattle.life_core.specs.Rule.{RuleSets}
 use Rattle.life_core.specs.Generations.{next}
 use Rattle.life_core.specs.PackedFrameState.{framed}
 use Rattle.life_core.specs.PackedMarginsState.{HasSlack, checked_room}
-use Rattle.life_core.specs.PackedRowsState.{AreSettled, IsPacked}
+use Rattle.life_core.specs.PackedRowsState.{AreMoved, AreSettled, IsPacked}
 use Rattle.life_core.proofs.GenerationsLaws.{next_within}
 use Rattle.life_core.proofs.BlockRoom.{slack_less, slack_of_more, slack_in_wider, checked_room_some}
-use Rattle.life_core.proofs.BlockSteps.{all_settled}
+use Rattle.life_core.proofs.MovedMarks.{moved_settled}
 use Rattle.life_core.proofs.packed.packed_rows.PackedRowsPlane.step.Goals as goal
 use Rattle.life_core.proofs.packed.packed_rows.PackedRowsPlane.step.Goals.{in-Some+in_ok-rows+in_ok-spare+in_ok-marks+in_ok-next_marks}
 use Rattle.life_core.proofs.packed.packed_rows.PackedRowsPlane.step.Goals.{in_default}
@@ -44,6 +44,10 @@ moved_rows-requires-clause-wider g c = c.in-Some.ensures.wider
 
 pub moved_rows-requires-clause-rows : goal.moved_rows-requires-clause-rows
 moved_rows-requires-clause-rows g c = c.self.invariant.size ∙ ap length (sym c.deref-in-Some.ensures.value)
+
+pub moved_marks-requires-clause-marks : goal.moved_marks-requires-clause-marks
+moved_marks-requires-clause-marks g c =
+    record { count = omega (arith, c.self.invariant.marks.count, ap length c.deref-in-Some-3.ensures.value) }
 
 pub advance-requires-clause-room : goal.advance-requires-clause-room
 advance-requires-clause-room g c =
@@ -91,9 +95,14 @@ advance-requires-clause-settled g c t =
     elim c.match-with_room.branch [
       | in-Some+in_ok-rows+in_ok-spare+in_ok-marks+in_ok-next_marks w ↦
           subst (λ z. IsTrue z.follows → AreSettled z.frame z.rule z.rows.items z.spare.items z.marks.items)
-          (sym w.self-inside-is) (λ follows. all_settled w.in-Some.wider.frame c.self.inside.rule
-          w.in_ok-rows.rows.items w.in_ok-spare.spare.items w.in_ok-marks.marks.items
-          w.in_ok-marks.ensures.marks w.in_ok-marks.ensures.set)
+          (sym w.self-inside-is) (moved_settled c.self.inside.frame w.in-Some.wider _ _ _ _ _ _ _ c.self.invariant
+          w.in_ok-rows.rows.items w.in_ok-spare.spare.items w.in_ok-marks.marks.items w.in-Some.ensures.frame
+          w.in-Some.ensures.whole w.in-Some.ensures.wider
+          w.in_ok-spare.ensures.len
+          (w.in_ok-rows.ensures.cells ∙ ap (framed c.self.inside.frame) w.deref-in-Some.ensures.value)
+          (w.in_ok-spare.ensures.cells ∙ ap (framed c.self.inside.frame) w.deref-in-Some-2.ensures.value)
+          (subst (λ (ms : List ℕ). AreMoved c.self.inside.frame w.in-Some.wider ms w.in_ok-marks.marks.items)
+          w.deref-in-Some-3.ensures.value w.in_ok-marks.ensures.moved))
       | in_default w ↦
           subst (λ z. IsTrue z.follows → AreSettled z.frame z.rule z.rows.items z.spare.items z.marks.items)
           (sym w.self-inside-is) c.self.invariant.settled
@@ -134,9 +143,11 @@ invariant_of-self g c =
                 (slack_in_wider c.self.inside.frame w.in-Some.wider 0
                 (framed c.self.inside.frame c.self.inside.spare.items) w.in-Some.ensures.wider
                 c.self.invariant.spare_room);
-            settled =
-                λ t. all_settled n c.self.inside.rule w.in_ok-rows.rows.items w.in_ok-spare.spare.items
-                w.in_ok-marks.marks.items w.in_ok-marks.ensures.marks w.in_ok-marks.ensures.set;
+            settled = moved_settled c.self.inside.frame w.in-Some.wider _ _ _ _ _ _ _ c.self.invariant
+                w.in_ok-rows.rows.items w.in_ok-spare.spare.items w.in_ok-marks.marks.items w.in-Some.ensures.frame
+                w.in-Some.ensures.whole w.in-Some.ensures.wider w.in_ok-spare.ensures.len same before
+                (subst (λ (ms : List ℕ). AreMoved c.self.inside.frame w.in-Some.wider ms w.in_ok-marks.marks.items)
+                w.deref-in-Some-3.ensures.value w.in_ok-marks.ensures.moved);
             after = λ t. same ∙ c.self.invariant.after t ∙ ap (next c.self.inside.rule) (sym before);
           } in
           subst (λ z. IsPacked z.frame z.rows.items z.spare.items z.marks.items z.next_marks.items z.rule z.follows

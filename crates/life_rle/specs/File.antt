@@ -8,6 +8,7 @@ use Rattle.life_core.specs.Cell.{cell_at}
 use Rattle.life_core.specs.Rule.{RuleSets, life}
 use Rattle.life_core.specs.RuleText.{without_blanks, read_rule}
 use Rattle.life_core.specs.Pattern.{normal}
+use Rattle.life_rle.specs.declared.file_reader.TheConstants.{LONGEST_FILE}
 use Rattle.life_rle.specs.declared.rle_fault.RleFault.{RleFault}
 use Rattle.life_rle.specs.declared.rle_fault.RleFault.TheVariants.{TooLong, TextLimit, NoHeader}
 use Rattle.life_rle.specs.RleFault.{in_file, ◌>>=◌}
@@ -72,4 +73,4 @@ kept bytes = read_lines no_notes (lines_of bytes)
 
 -- the record, or the first fault, of a file; more than 1,048,576 bytes (1 MiB) are too long
 unfoldable pub file : List ℕ → Result Contents RleFault
-file bytes = if nat_lt 1048576 (length bytes) then Err TooLong else kept bytes
+file bytes = if nat_lt LONGEST_FILE (length bytes) then Err TooLong else kept bytes

@@ -3,6 +3,7 @@ use Rattle.std.specs.Prelude.{ℕ, Bool, true, false, ◌||◌, List, [], ◌∷
 use Rattle.std.specs.Prelude.{Option, Some, None, is_some}
 use Rattle.std.specs.List.{fold, list_any}
 use Rattle.life_rle.specs.declared.notes.Notes as code
+use Rattle.life_rle.specs.declared.notes.TheConstants.{LONGEST_TEXT, MOST_COMMENTS}
 use Rattle.life_rle.specs.RleLines.{Line, passed, named, authored, comment, ruled, header, line_kind}
 
 -- the texts so far
@@ -54,7 +55,7 @@ notes_of notes lines = fold (λ n line. with_line n (line_kind line)) notes line
 
 -- more than 200 bytes
 abbrev pub is_long : List ℕ → Bool
-is_long text = nat_lt 200 (length text)
+is_long text = nat_lt LONGEST_TEXT (length text)
 
 -- whether there is a text, of more than 200 bytes
 abbrev pub is_long_text : Option (List ℕ) → Bool
@@ -65,7 +66,7 @@ is_long_text (Some text) = is_long text
 abbrev pub is_past_limit : Notes → Bool
 is_past_limit notes =
     is_long_text notes.name || is_long_text notes.author || list_any is_long notes.comments
-    || nat_lt 64 (length notes.comments)
+    || nat_lt MOST_COMMENTS (length notes.comments)
 
 -- the code's texts as a value of `Notes`
 abbrev pub notes : {A : Type 0} → code.Notes A → Notes

@@ -5,6 +5,7 @@ use Rattle.std.specs.List.{AllByRecursion}
 use Rattle.life_core.specs.Ascii.{line_feed}
 use Rattle.life_core.specs.Rule.{RuleSets, coded_rule}
 use Rattle.life_core.specs.Pattern.{Cells, coded_cells, normal, IsWithin}
+use Rattle.life_rle.specs.declared.notes.TheConstants.{LONGEST_TEXT, MOST_COMMENTS}
 use Rattle.life_rle.specs.RleLines.{trim}
 
 -- a name, an author, comments, a rule and a set of cells
@@ -31,7 +32,7 @@ HasNoLineEnd bytes = AllByRecursion (λ b. (b == line_feed) ≡ false) bytes
 
 -- a text of at most 200 bytes, without a line end, and without blanks at its ends
 pub record IsText (bytes : List ℕ) : Type 0 where
-  pub short : length bytes ≤ 200
+  pub short : length bytes ≤ LONGEST_TEXT
   pub line : HasNoLineEnd bytes
   pub trimmed : trim bytes ≡ bytes
 
@@ -45,7 +46,7 @@ pub record IsRecord (r : Contents) : Type 0 where
   pub name : IsName r.name
   pub author : IsName r.author
   pub comments : AllByRecursion IsText r.comments
-  pub few : length r.comments ≤ 64
+  pub few : length r.comments ≤ MOST_COMMENTS
   pub cells : normal r.cells ≡ r.cells
 
 -- A normal set lies in a box of at most k by k: its coordinates, which are at least 0, are below k. `Pattern::within(k

@@ -10,7 +10,7 @@ use crate::text::{Text, Texts};
 use std::alloc::{AllocError, Allocator};
 
 /// The most bytes of a text.
-const LONGEST: usize = 200;
+const LONGEST_TEXT: usize = 200;
 /// The most comments.
 const MOST_COMMENTS: usize = 64;
 
@@ -87,7 +87,9 @@ impl<A: Allocator> Notes<A> {
 fn has_long<A: Allocator>(texts: &[Text<A>]) -> bool
     ensures { result ≡ list_any is_long texts.now }
 {
-    texts.iter().any(|text| text.as_bytes().len() > LONGEST)
+    texts
+        .iter()
+        .any(|text| text.as_bytes().len() > LONGEST_TEXT)
 }
 
 /// Whether there is a text and it is too long.
@@ -96,6 +98,6 @@ fn is_long<A: Allocator>(text: &Option<Text<A>>) -> bool
 {
     match text {
         None => false,
-        Some(text) => text.as_bytes().len() > LONGEST,
+        Some(text) => text.as_bytes().len() > LONGEST_TEXT,
     }
 }

@@ -1,8 +1,10 @@
-//! Tests of the archive: requests and replies, files, HTTP messages, and sessions.
+//! Tests of the archive: requests and replies, files, HTTP messages, sessions, and the check.
 #![tactic(auto)]
 
 #[cfg(test)]
 mod archive_file_tests;
+#[cfg(test)]
+mod check_tests;
 #[cfg(test)]
 mod deposit_tests;
 #[cfg(test)]

@@ -255,6 +255,7 @@ fn counted_follows<S: Alter>(
         return Ok(None);
     };
     let (tally, steady) = tally_of_generation(alloc, &deposit, census)?;
+    *last = Some((census.deposit, deposit));
     if !is_of_census(alloc, row, id, census, tally.total, tally.unresolved)? {
         return Ok(None);
     }
@@ -264,7 +265,6 @@ fn counted_follows<S: Alter>(
     if !flag_follows(store, alloc, id, steady)? {
         return Ok(None);
     }
-    *last = Some((census.deposit, deposit));
     Ok(Some(more))
 }
 

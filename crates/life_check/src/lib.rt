@@ -11,8 +11,6 @@ mod checked_rows;
 mod listing;
 mod report;
 mod schemas;
-#[cfg(test)]
-mod tests;
 mod walk;
 
 pub use archive_check::{CheckVerdict, Wrong, check, check_trees, law_of_unique_tokens};

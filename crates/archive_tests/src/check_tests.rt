@@ -1,7 +1,5 @@
 //! Checks of a sound archive and of damaged ones. Each table and column is damaged by SQL that all constraints allow.
-use crate::archive_check::{CheckVerdict, Wrong, check_trees};
-use crate::check_watch::Unwatched;
-use crate::listing::further_errors;
+use life_check::{CheckVerdict, Unwatched, Wrong, check_trees, further_errors};
 use sqlite::{Connection, Error, MemStore};
 use std::alloc::Global;
 use std::test::Fail;

@@ -48,25 +48,40 @@ fn opening_reason(error: Error) -> Option<&'static str> {
     }
 }
 
-/// Why opening the file fails, if it does. A log that this opening makes is removed again while the file is still
-/// locked.
-fn refused_opening(rt: &HostRuntime, path: &str) -> Option<&'static str> {
-    if let Ok((_archive, made)) = Archive::open_unprepared(rt, path, CAPACITY, Unknown) {
-        made.remove(rt);
-        return None;
+/// Whether the file opens as an archive. A log that this opening makes is removed again while the file is still locked.
+fn opens(rt: &HostRuntime, path: &str) -> bool {
+    match Archive::open_unprepared(rt, path, CAPACITY, Unknown) {
+        Ok((_archive, made)) => {
+            made.remove(rt);
+            true
+        }
+        Err(_) => false,
     }
-    let log = format!(in rt.alloc(); "{path}-wal").ok()?;
-    let had_log = fs::exists(rt, log.as_str()).unwrap_or(true);
+}
+
+/// Why opening the file as a database fails, if it does. Unless there was a log before, one that this opening makes is
+/// removed again while the file is still locked.
+fn database_reason(rt: &HostRuntime, path: &str, log: &str, had_log: bool) -> Option<&'static str> {
     let opened = Connection::open_from(rt, path, true, Unknown);
     let holds_lock = !matches!(opened, Err((_, None)));
-    if holds_lock && !had_log && fs::metadata(rt, log.as_str()).is_ok_and(|made| made.len() == 0) {
+    if holds_lock && !had_log && fs::metadata(rt, log).is_ok_and(|made| made.len() == 0) {
         // If removing fails, the log stays empty, and the next opening uses it.
-        let _removed = fs::remove_file(rt, log.as_str());
+        let _removed = fs::remove_file(rt, log);
     }
     match opened {
         Ok(_) => None,
         Err((error, _)) => opening_reason(error),
     }
+}
+
+/// Why opening the file fails, if it does.
+fn refused_opening(rt: &HostRuntime, path: &str) -> Option<&'static str> {
+    if opens(rt, path) {
+        return None;
+    }
+    let log = format!(in rt.alloc(); "{path}-wal").ok()?;
+    let had_log = fs::exists(rt, log.as_str()).unwrap_or(true);
+    database_reason(rt, path, log.as_str(), had_log)
 }
 
 /// Why the file could not be used, in a few words, if opening it again shows a reason. It is printed after an

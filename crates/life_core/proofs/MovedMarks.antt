@@ -1,5 +1,6 @@
 -- Marks that move with their blocks to a wider frame.
-use Rattle.std.specs.Prelude.{◌≡◌, ℕ, pos, ◌+◌, ◌-◌, ◌*◌, ◌/◌, ◌%◌, ◌<◌, ◌≤◌, ◌+ℤ◌, Bool, true, IsTrue, List, length, nat_eq}
+use Rattle.std.specs.Prelude.{◌≡◌, ℕ, pos, ◌+◌, ◌-◌, ◌*◌, ◌/◌, ◌%◌, ◌<◌, ◌≤◌, ◌+ℤ◌, Bool, true, IsTrue, List}
+use Rattle.std.specs.Prelude.{length, nat_eq}
 use Rattle.std.proofs.Common.{sym, ap, ◌∙◌, inl, inr, arith}
 use Rattle.std.proofs.lemmas.Bool.{cases_lt}
 use Rattle.std.proofs.lemmas.Int.{ints}
@@ -121,8 +122,9 @@ module _ (f : Frame) (w : Wider) (rows out marks next_marks : List ℕ) (r : Rul
         ((λ n. place wide_marks (mark_at wide_columns (line n) (column n))) ∙ idle) in
         ap (set.contains (framed f out)) cell ∙ sym (one_if-true _)
         ∙ ap (λ n. nat_eq n 1)
-        (sym (block_place f columns (f.height / 16) out (blocks f packed.frame packed.whole) size y x i p (omega (arith, bottom))
-        right small inside) ∙ (packed.settled t).places y x i p first bottom right small inside unset)
+        (sym (block_place f columns (f.height / 16) out (blocks f packed.frame packed.whole) size y x i p
+        (omega (arith, bottom)) right small inside)
+        ∙ (packed.settled t).places y x i p first bottom right small inside unset)
         ∙ one_if-true _ ∙ ap (set.contains (next r (framed f rows))) (sym cell)
 
     -- outside of them, neither set has a cell

@@ -29,7 +29,8 @@ returns-then-at-gt61-clause-set c k few is =
       | inr two ↦
           let here : c.args.from + k ≡ 64 * (c.args.from / 64 + 1) + (at + k - 64) = omega (arith, two) in
           ap (place c.set_in_word-then-at-gt61.new.marks) here
-          ∙ c.set_in_word-then-at-gt61.ensures.set (at + k - 64) (omega (arith, few)) (second c.args.reach at k (omega arith) two ∙ is)
+          ∙ c.set_in_word-then-at-gt61.ensures.set (at + k - 64) (omega (arith, few))
+          (second c.args.reach at k (omega arith) two ∙ is)
     ]
 
 pub returns-else-at-gt61-clause-set : goal.returns-else-at-gt61-clause-set

@@ -1,16 +1,14 @@
 -- Marks as bits.
 use Rattle.std.proofs.Common.{◌≡◌, ◌≢◌, ℕ, ◌+◌, ◌-◌, ◌*◌, ◌/◌, ◌%◌, ◌^◌, ◌<◌, ◌≤◌, List, length, get_or, set, sym}
-use Rattle.std.proofs.Common.{get_or-set_other, get_or-set_same, length-set, ap, ◌∙◌, inl, inr, arith, bit_or, max, w64}
+use Rattle.std.proofs.Common.{get_or-set_other, get_or-set_same, length-set, ap, ◌∙◌, inl, inr, arith, bit_or, w64}
 use Rattle.std.specs.Int.{bit_at, trailing_zeros}
 use Rattle.std.proofs.lemmas.Bool.{cases_lt, cases_eq}
 use Rattle.std.proofs.lemmas.List.{get_or_past}
 use Rattle.std.proofs.lemmas.Nat.{shr-shr}
-use Rattle.std.proofs.lemmas.Nat.Bits.{bit_at_set_same, bit_at_set_other, bit_at_ones, bit_at_or, bit_at-lt}
-use Rattle.std.proofs.lemmas.Nat.Bits.{bit_at-zero}
+use Rattle.std.proofs.lemmas.Nat.Bits.{bit_at_set_same, bit_at_set_other, bit_at_ones, bit_at-zero}
 use Rattle.life_core.specs.PackedRow.{place}
 use Rattle.life_core.specs.PackedMarksState.{IsMarked, KeepsMarks}
 use Rattle.life_core.proofs.PackedCells.{lowest_run}
-use Rattle.life_core.proofs.WordShifts.{place_at}
 
 -- a word with bit j % 64 set
 abbrev pub with_mark : List ℕ → ℕ → ℕ
@@ -37,36 +35,6 @@ set_keeps marks j inside = record {
           ∙ bit_at_set_other w64 (get_or marks (j / 64) 0) (j % 64) (omega arith) (m % 64) bit
           ∙ ap (λ k. bit_at (get_or marks k 0) (m % 64)) (sym here) ∙ h
     ]
-  ];
-}
-
--- the bits of a word, and those of `bits`, are marks
-abbrev pub with_bits : List ℕ → ℕ → ℕ → List ℕ
-with_bits marks i bits = set marks i (bit_or (get_or marks i 0) bits)
-
-pub bits_are : (marks : List ℕ) (i bits : ℕ) → i < length marks → (k : ℕ) → k < 64 → bit_at bits k ≡ 1
-    → IsMarked (with_bits marks i bits) (64 * i + k)
-bits_are marks i bits inside k lt is =
-    let w = get_or marks i 0 in
-    let most = bit_at-lt w k in
-    place_at (with_bits marks i bits) i k lt
-    ∙ ap (λ n. bit_at n k) (get_or-set_same marks i (bit_or w bits) 0 inside) ∙ bit_at_or w bits k
-    ∙ (let whole : max (bit_at w k) (bit_at bits k) ≡ 1 = omega (arith, is, most) in whole)
-
-pub bits_keep : (marks : List ℕ) (i bits : ℕ) → i < length marks → KeepsMarks marks (with_bits marks i bits)
-bits_keep marks i bits inside = record {
-  long = length-set marks _ _;
-  set = λ m h. elim (cases_eq (m / 64) i) [
-    | inr away ↦
-        ap (λ w. bit_at w (m % 64)) (get_or-set_other marks i (m / 64) (bit_or (get_or marks i 0) bits) 0 away) ∙ h
-    | inl here ↦
-        let w = get_or marks i 0 in
-        let k = m % 64 in
-        let was : bit_at w k ≡ 1 = ap (λ j. bit_at (get_or marks j 0) k) (sym here) ∙ h in
-        let most = bit_at-lt bits k in
-        ap (λ j. bit_at (get_or (with_bits marks i bits) j 0) k) here
-        ∙ ap (λ n. bit_at n k) (get_or-set_same marks i (bit_or w bits) 0 inside) ∙ bit_at_or w bits k
-        ∙ (let whole : max (bit_at w k) (bit_at bits k) ≡ 1 = omega (arith, was, most) in whole)
   ];
 }
 

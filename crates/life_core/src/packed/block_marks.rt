@@ -1,6 +1,5 @@
 //! Marks: a bit for each block, set if a change reaches it, so that the next step has to compute it.
 ghost use Rattle.std.specs.Prelude.{◌≡◌, ℕ, ◌+◌, ◌-◌, ◌*◌, ◌^◌, ◌≤◌, ◌<◌, length, slice_index_or, IsTrue, IsFalse};
-ghost use Rattle.std.specs.Int.{bit_at};
 ghost use Rattle.life_core.specs.PackedRow.{place};
 ghost use Rattle.life_core.specs.PackedMarksState.{KeepsMarks, IsMarked, AreNeighboursMarked};
 
@@ -15,16 +14,20 @@ fn any(words: u64x2) -> bool
     words[0] | words[1] != 0
 }
 
-/// Which marks a change in block `b` reaches in its line: bit 0 for `b - 1`, if the first place has changed, bit 1 for
-/// `b`, and bit 2 for `b + 1`, if the last place has.
+/// Whether the first place is set.
 #[inline(always)]
-fn reach(changed: u64x2) -> u64
-    ensures left { place changed 0 ≡ 1 → bit_at result 0 ≡ 1 }
-    ensures own { bit_at result 1 ≡ 1 }
-    ensures right { place changed 127 ≡ 1 → bit_at result 2 ≡ 1 }
+fn first(words: u64x2) -> bool
+    ensures { IsFalse result → place words 0 ≡ 0 }
 {
-    let words = changed.to_array();
-    words[0] % 2 + 2 + 4 * (words[1] >> 63)
+    words.to_array()[0] & 1 != 0
+}
+
+/// Whether the last place is set.
+#[inline(always)]
+fn last(words: u64x2) -> bool
+    ensures { IsFalse result → place words 127 ≡ 0 }
+{
+    words.to_array()[1] >> 63 != 0
 }
 
 /// Whether a mark is set.
@@ -67,27 +70,15 @@ pub(crate) fn set_mark(marks: &mut [u64], j: usize)
     marks[j / 64] |= 1 << (j % 64);
 }
 
-/// Sets the marks of a word whose bits are set in `bits`.
+/// Sets a mark, if `is_asked`.
 #[inline(always)]
-fn set_in_word(marks: &mut [u64], i: usize, bits: u64)
-    requires { i < length marks.old }
+fn set_mark_if(marks: &mut [u64], j: usize, is_asked: bool)
+    requires { j < 64 * length marks.old }
     ensures kept { KeepsMarks marks.old marks.new }
-    ensures set { (k : ℕ) → k < 64 → bit_at bits k ≡ 1 → IsMarked marks.new (64 * i + k) }
+    ensures raised { IsTrue is_asked → IsMarked marks.new j }
 {
-    marks[i] |= bits;
-}
-
-/// Sets the marks from `from` on whose bits are set in `reach`. They are in one word, or in two.
-#[inline(always)]
-fn set_reached(marks: &mut [u64], from: usize, reach: u64)
-    requires { from + 2 < 64 * length marks.old }
-    ensures kept { KeepsMarks marks.old marks.new }
-    ensures set { (k : ℕ) → k < 3 → bit_at reach k ≡ 1 → IsMarked marks.new (from + k) }
-{
-    let at = from % 64;
-    set_in_word(marks, from / 64, reach << at);
-    if at > 61 {
-        set_in_word(marks, from / 64 + 1, reach >> (64 - at));
+    if is_asked {
+        set_mark(marks, j);
     }
 }
 
@@ -105,7 +96,9 @@ fn mark_block(changed: u64x2, b: usize, marks: &mut [u64])
     if !any(changed) {
         return;
     }
-    set_reached(marks, b - 1, reach(changed));
+    set_mark(marks, b);
+    set_mark_if(marks, b - 1, first(changed));
+    set_mark_if(marks, b + 1, last(changed));
 }
 
 /// Marks each block that a change in block `b` reaches: itself, and up to eight around it. The vectors have a bit for

@@ -71,6 +71,6 @@ read_lines before lines =
 unfoldable pub kept : List ℕ → Result Contents RleFault
 kept bytes = read_lines no_notes (lines_of bytes)
 
--- the record, or the first fault, of a file; more than 1,048,576 bytes (1 MiB) are too long
+-- the record, or the first fault, of a file
 unfoldable pub file : List ℕ → Result Contents RleFault
 file bytes = if nat_lt LONGEST_FILE (length bytes) then Err TooLong else kept bytes

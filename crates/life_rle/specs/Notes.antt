@@ -53,16 +53,16 @@ is_header line = is_header_kind (line_kind line)
 abbrev pub notes_of : Notes → List (List ℕ) → Notes
 notes_of notes lines = fold (λ n line. with_line n (line_kind line)) notes lines
 
--- more than 200 bytes
+-- a text has too many bytes
 abbrev pub is_long : List ℕ → Bool
 is_long text = nat_lt LONGEST_TEXT (length text)
 
--- whether there is a text, of more than 200 bytes
+-- whether there is a text, and it has too many
 abbrev pub is_long_text : Option (List ℕ) → Bool
 is_long_text None = false
 is_long_text (Some text) = is_long text
 
--- a kept text of more than 200 bytes, or more than 64 comments
+-- a kept text has too many bytes, or there are too many comments
 abbrev pub is_past_limit : Notes → Bool
 is_past_limit notes =
     is_long_text notes.name || is_long_text notes.author || list_any is_long notes.comments

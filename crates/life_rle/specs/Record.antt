@@ -30,7 +30,7 @@ coded_contents =
 abbrev pub HasNoLineEnd : List ℕ → Type 0
 HasNoLineEnd bytes = AllByRecursion (λ b. (b == line_feed) ≡ false) bytes
 
--- a text of at most 200 bytes, without a line end, and without blanks at its ends
+-- a text that is not too long, without a line end, and without blanks at its ends
 pub record IsText (bytes : List ℕ) : Type 0 where
   pub short : length bytes ≤ LONGEST_TEXT
   pub line : HasNoLineEnd bytes
@@ -41,7 +41,7 @@ abbrev pub IsName : Option (List ℕ) → Type 0
 IsName None = Unit {0}
 IsName (Some bytes) = IsText bytes × (length bytes ≢ 0)
 
--- the invariant of records: valid texts, at most 64 comments, and normal cells
+-- the invariant of records: valid texts, not too many comments, and normal cells
 pub record IsRecord (r : Contents) : Type 0 where
   pub name : IsName r.name
   pub author : IsName r.author
